@@ -1,0 +1,179 @@
+// The published vectors, run: FNV-1a's own test strings and the worked examples of MQTT 3.1.1 section 4.7. Each line of standard input asks one thing
+// of quoted text and comes back with its answer in front:
+//     hash "TEXT"               FNV-1a of the text, 32 bits
+//     valid "FILTER"            whether the filter's wildcards are well placed
+//     match "FILTER" "NAME"     whether the filter takes the name, by the port and by the standard matcher (`out`: its number 9), and where they differ
+// Any other line is a heading. The answers are compared with the file `stdout`; what is proved here is that the program is safe and ends.
+use libc::STDIN_FILENO;
+use libc::STDOUT_FILENO;
+use topics::hashes::fnv1a_hash;
+use topics::matching::StandardMatch;
+use topics::matching::standard_matches;
+use topics::matching::topic_matches;
+use topics::patterns::validate_mqtt_wildcard;
+ghost use Prim.Native.Nat.{_≤_};
+ghost use lib.ListN.{length};
+ghost use Rattle.corners.specs.Parts.{Within};
+
+// A quoted part of a line, and the place after its closing quote.
+struct Part {
+    from: usize,
+    to: usize,
+    next: usize,
+}
+
+fn main() {
+    let mut buffer = io::large_buffer();
+    let n = io::read_full(STDIN_FILENO, &mut buffer);
+    answer_all(&buffer[..n]);
+}
+
+// The whole input, line after line.
+fn answer_all(text: &[u8]) {
+    let mut at = 0;
+    while at < text.len() {
+        let end = place_of(text, at, b'\n');
+        answer(&text[at..end]);
+        if end == text.len() {
+            return;
+        }
+        at = end + 1;
+    }
+}
+
+// The answer to a line, by its first letter, and the line itself.
+fn answer(line: &[u8]) {
+    if 0 < line.len() {
+        let word = line[0];
+        if word == b'h' {
+            answer_hash(line);
+        }
+        if word == b'v' {
+            answer_valid(line);
+        }
+        if word == b'm' {
+            answer_match(line);
+        }
+    }
+    say(line);
+    say(b"\n");
+}
+
+// The eight digits of a hash.
+fn answer_hash(line: &[u8]) {
+    let text = quoted(line, 0);
+    let from = text.from;
+    let to = text.to;
+    let hash = fnv1a_hash(&line[from..to]);
+    io::print_hex(STDOUT_FILENO, hash as u64, 8);
+    say(b"  ");
+}
+
+// Whether a filter is valid.
+fn answer_valid(line: &[u8]) {
+    let filter = quoted(line, 0);
+    let from = filter.from;
+    let to = filter.to;
+    say_answer(number_of(validate_mqtt_wildcard(&line[from..to])));
+    say(b"  ");
+}
+
+// Whether a filter takes a name.
+fn answer_match(line: &[u8]) {
+    let filter = quoted(line, 0);
+    let filter_from = filter.from;
+    let filter_to = filter.to;
+    let name = quoted(line, filter.next);
+    let name_from = name.from;
+    let name_to = name.to;
+    compare(&line[filter_from..filter_to], &line[name_from..name_to]);
+}
+
+// What the two matchers answer, and whether they differ.
+fn compare(filter: &[u8], name: &[u8]) {
+    let port = number_of(topic_matches(name, filter));
+    let standard = standard_number(standard_matches(name, filter));
+    say(b"port ");
+    say_answer(port);
+    say(b"  standard ");
+    say_answer(standard);
+    if port == standard {
+        say(b"          ");
+    } else {
+        say(b"  differ  ");
+    }
+}
+
+// 0 for no, 1 for yes, 9 outside the domain.
+fn number_of(answer: bool) -> u32 {
+    if answer { 1 } else { 0 }
+}
+
+// The same numbers, of the standard matcher.
+fn standard_number(answer: StandardMatch) -> u32 {
+    match answer {
+        StandardMatch::No => 0,
+        StandardMatch::Yes => 1,
+        StandardMatch::OutsideDomain => 9,
+    }
+}
+
+// Such a number as a word, three letters wide.
+fn say_answer(number: u32) {
+    if number == 0 {
+        return say(b"no ");
+    }
+    if number == 1 {
+        return say(b"yes");
+    }
+    say(b"out")
+}
+
+// Bytes to standard output.
+fn say(text: &[u8]) {
+    io::write_all(STDOUT_FILENO, text);
+}
+
+// What stands between the first two quotes from `from` on.
+fn quoted(line: &[u8], from: usize) -> Part
+    requires { ⌜ from ≤ length (now line) ⌝ }
+    ensures { λ r. ⌜ Within r (length (now (line .entry))) ⌝ }
+{
+    let open = place_of(line, from, b'"');
+    if open == line.len() {
+        return Part {
+            from: open,
+            to: open,
+            next: open,
+        };
+    }
+    let start = open + 1;
+    let close = place_of(line, start, b'"');
+    if close == line.len() {
+        return Part {
+            from: start,
+            to: close,
+            next: close,
+        };
+    }
+    Part {
+        from: start,
+        to: close,
+        next: close + 1,
+    }
+}
+
+// The place of the first `byte` from `from` on, or the end.
+fn place_of(text: &[u8], from: usize, byte: u8) -> usize
+    requires { ⌜ from ≤ length (now text) ⌝ }
+    ensures { λ r. ⌜ (from ≤ r) × (r ≤ length (now (text .entry))) ⌝ }
+{
+    let mut i = from;
+    while i < text.len() {
+        if text[i] == byte {
+            return i;
+        }
+        i += 1;
+    }
+    i
+}

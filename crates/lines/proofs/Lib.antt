@@ -1,0 +1,17 @@
+pub mod Cases
+pub mod DecimalLaws
+pub mod DecimalRound
+pub mod EveryLaws
+pub mod FieldLaws
+pub mod HexLaws
+pub mod HexRound
+pub mod KeptLaws
+pub mod LineLaws
+pub mod ReadDecimalLaws
+pub mod ReadHexLaws
+pub mod ReadWordLaws
+pub mod SpanLaws
+pub mod TestLaws
+pub mod WordLaws
+pub mod WordRound
+pub mod WroteLaws

@@ -1,0 +1,71 @@
+-- `lines::value::word` meets its contract. The invariant: `k` words were passed, none of them `l`, and the others begin at `from`; the measure: the bytes of the list that are left.
+-- Assumes nothing.
+use Prim.Native.Nat.{_-_, _≤_}
+use mathlib.Core.Path.{sym, _∙_}
+use native.Mathlib.Omega.{arith}
+use lib.ListN.{length}
+use borrow.Author.Needs.{needs}
+use Rattle.lines.proofs.ReadWordLaws.{Passed, passed-none, word-inside, word-found, word-next, word-missing}
+use Rattle.lines.proofs.value.word.Statement.{statement}
+use Rattle.lines.proofs.value.word.Tie as tie
+
+abbrev Inv-loop : tie.InvT-loop
+Inv-loop words l from₀ k₀ from k = (from ≤ length words) × (k ≤ from) × Passed words l from k
+
+abbrev μ-loop : tie.MeasureT-loop
+μ-loop words l from₀ k₀ from k = length words - from
+
+loop-holds : tie.Need-loop-holds Inv-loop μ-loop
+loop-holds c = (omega arith, omega arith, passed-none _ _)
+
+find-byte-requires : tie.Need-find-byte-requires Inv-loop μ-loop
+find-byte-requires c κs = search needs
+
+sub-is-word : tie.Need-sub-is-word Inv-loop μ-loop
+sub-is-word c = word-inside _ (c .before .loop .inv .0) (c .find-byte .ensures) .0
+
+part-is-word-start : tie.Need-part-is-word-start Inv-loop μ-loop
+part-is-word-start c = let h = word-inside _ (c .before .loop .inv .0) (c .find-byte .ensures) in search needs
+
+part-is-word-end : tie.Need-part-is-word-end Inv-loop μ-loop
+part-is-word-end c = let h = word-inside _ (c .before .loop .inv .0) (c .find-byte .ensures) in search needs
+
+is-word-requires : tie.Need-is-word-requires Inv-loop μ-loop
+is-word-requires c κs = search needs
+
+returns : tie.Need-returns Inv-loop μ-loop
+returns c = word-found (c .before .before .before .before .loop .inv .2) (c .before .before .before .before .loop .inv .0) (c .before .before .before .find-byte .ensures) (sym (c .before .is-word .ensures) ∙ c .if1 .taken)
+
+returns-2 : tie.Need-returns-2 Inv-loop μ-loop
+returns-2 c = word-missing (c .before .before .before .before .before .loop .inv .2) (c .before .before .before .before .before .loop .inv .0) (c .before .before .before .before .find-byte .ensures) (sym (c .before .before .is-word .ensures) ∙ c .before .if1 .left) (c .if2 .taken)
+
+add-from : tie.Need-add-from Inv-loop μ-loop
+add-from c = let h = word-inside _ (c .before .before .before .before .before .loop .inv .0) (c .before .before .before .before .find-byte .ensures) in search needs
+
+add-k : tie.Need-add-k Inv-loop μ-loop
+add-k c = let h = word-inside _ (c .before .before .before .before .before .loop .inv .0) (c .before .before .before .before .find-byte .ensures) in search needs
+
+loop-less : tie.Need-loop-less Inv-loop μ-loop
+loop-less c = let h = word-inside _ (c .before .before .before .before .before .loop .inv .0) (c .before .before .before .before .find-byte .ensures) in omega arith
+
+loop-again : tie.Need-loop-again Inv-loop μ-loop
+loop-again c = let h = word-inside _ (c .before .before .before .before .before .loop .inv .0) (c .before .before .before .before .find-byte .ensures) in (omega arith, omega arith, word-next (c .before .before .before .before .before .loop .inv .2) (c .before .before .before .before .before .loop .inv .0) (c .before .before .before .before .find-byte .ensures) (sym (c .before .before .is-word .ensures) ∙ c .before .if1 .left) (c .if2 .left))
+
+pub word-spec : {M : Type 1} → statement M
+word-spec =
+    tie.close
+    (tie.spec
+    Inv-loop
+    μ-loop
+    loop-holds
+    find-byte-requires
+    sub-is-word
+    part-is-word-start
+    part-is-word-end
+    is-word-requires
+    returns
+    returns-2
+    add-from
+    add-k
+    loop-less
+    loop-again)

@@ -1,0 +1,13 @@
+pub mod Bytes
+pub mod Decimal
+pub mod Every
+pub mod Field
+pub mod Hex
+pub mod Line
+pub mod Part
+pub mod ReadDecimal
+pub mod ReadHex
+pub mod ReadWord
+pub mod Span
+pub mod Word
+pub mod Wrote

@@ -1,0 +1,15 @@
+pub mod BitLaws
+pub mod BoolLaws
+pub mod ByteLaws
+pub mod Difference
+pub mod FoldLaws
+pub mod HashLaws
+pub mod LevelLaws
+pub mod MatchLaws
+pub mod Meaning
+pub mod PatternLaws
+pub mod Placed
+pub mod PlacedLaws
+pub mod SameLaws
+pub mod ScanLaws
+pub mod StandardLaws

@@ -1,0 +1,95 @@
+-- The byte matcher at what is left of a topic and a pattern at an index each: one law for each way through the loops of `level_end` and `matches_with` and
+-- through `takes_none` and `takes_end`, with the branches' facts as premises. Assumes nothing.
+use mathlib.Core.Bool.{Bool, true, false}
+use mathlib.Core.List.{List, [], _∷_}
+use mathlib.Core.Path.{_≡_}
+use Prim.Native.Nat.{ℕ, _+_, _<_, _≤_}
+use borrow.Author.Tests.{eq-eqb, ne-eqb}
+use lib.Dec.{eqb}
+use lib.ListN.{length, drop, getD, drop-of-length-le}
+use Rattle.topics.specs.Matching.{fromSlash, takesNone, takesEnd, matchBytes}
+use Rattle.topics.proofs.ByteLaws.{opened}
+
+-- at the end of a list each definition knows its answer
+pub slash-end : (s : List ℕ) (i : ℕ) → length s ≤ i → fromSlash (drop i s) ≡ drop i s
+unfolding fromSlash
+slash-end s i l = rw (drop-of-length-le s l)
+
+pub none-end : (p : List ℕ) (j : ℕ) → length p ≤ j → true ≡ takesNone (drop j p)
+unfolding takesNone
+none-end p j l = rw (drop-of-length-le p l)
+
+pub end-end : (f : Bool) (p : List ℕ) (j : ℕ) → length p ≤ j → true ≡ takesEnd f (drop j p)
+unfolding takesEnd
+end-end f p j l = rw (drop-of-length-le p l)
+
+pub match-end : (f : Bool) (t p : List ℕ) (i : ℕ) → length t ≤ i → matchBytes f (drop i t) p ≡ takesEnd f p
+unfolding matchBytes takesEnd
+match-end f t [] i l = rw (drop-of-length-le t l)
+match-end f t (c ∷ p) i l = rw (drop-of-length-le t l)
+
+-- the search for a slash
+module _ (s : List ℕ) (i : ℕ) (l : i < length s) where
+  pub slash-here : getD s i 0 ≡ 47 → fromSlash (drop i s) ≡ drop i s
+  unfolding fromSlash
+  slash-here e = rw (opened s i l, eq-eqb _ _ e, fromSlash)
+
+  pub slash-on : (getD s i 0 ≡ 47 → ⊥) → fromSlash (drop i s) ≡ fromSlash (drop (i + 1) s)
+  unfolding fromSlash
+  slash-on e = rw (opened s i l, ne-eqb _ _ e, fromSlash)
+
+-- the pattern alone
+module _ (p : List ℕ) (j : ℕ) (l : j < length p) where
+  pub none-hash : getD p j 0 ≡ 35 → true ≡ takesNone (drop j p)
+  unfolding takesNone
+  none-hash e = rw (opened p j l, eq-eqb _ _ e, takesNone)
+
+  pub end-plus : {f : Bool} → f ≡ true → getD p j 0 ≡ 43 → takesNone (drop (j + 1) p) ≡ takesEnd f (drop j p)
+  unfolding takesEnd
+  end-plus b e = rw (opened p j l, b, eq-eqb _ _ e, takesEnd)
+
+  pub end-other : {f : Bool} → f ≡ true → (getD p j 0 ≡ 43 → ⊥) → takesNone (drop j p) ≡ takesEnd f (drop j p)
+  unfolding takesEnd
+  end-other b e = rw (opened p j l, b, ne-eqb _ _ e, takesEnd)
+
+  pub end-port : {f : Bool} → f ≡ false → takesNone (drop j p) ≡ takesEnd f (drop j p)
+  unfolding takesEnd
+  end-port b = rw (opened p j l, b)
+
+  module _ (h : getD p j 0 ≡ 35 → ⊥) where
+    pub none-other : (getD p j 0 ≡ 47 → ⊥) → false ≡ takesNone (drop j p)
+    unfolding takesNone
+    none-other e = rw (opened p j l, ne-eqb _ _ h, ne-eqb _ _ e, takesNone)
+
+    pub none-last : getD p j 0 ≡ 47 → length p ≤ j + 1 → false ≡ takesNone (drop j p)
+    unfolding takesNone
+    none-last e m = rw (opened p j l, ne-eqb _ _ h, eq-eqb _ _ e, takesNone, drop-of-length-le p m)
+
+    pub none-next : getD p j 0 ≡ 47 → j + 1 < length p → eqb (getD p (j + 1) 0) 35 ≡ takesNone (drop j p)
+    unfolding takesNone
+    none-next e m = rw (opened p j l, ne-eqb _ _ h, eq-eqb _ _ e, takesNone, opened p (j + 1) m)
+
+-- topic and pattern
+module _ (f : Bool) (t p : List ℕ) (i j : ℕ) (lt : i < length t) where
+  pub match-over : length p ≤ j → matchBytes f (drop i t) (drop j p) ≡ false
+  unfolding matchBytes
+  match-over l = rw (opened t i lt, drop-of-length-le p l)
+
+  module _ (lp : j < length p) where
+    pub match-hash : getD p j 0 ≡ 35 → matchBytes f (drop i t) (drop j p) ≡ true
+    unfolding matchBytes
+    match-hash e = rw (opened t i lt, opened p j lp, eq-eqb _ _ e, matchBytes)
+
+    module _ (h : getD p j 0 ≡ 35 → ⊥) where
+      pub match-plus : (k : ℕ) → getD p j 0 ≡ 43 → drop k t ≡ fromSlash (drop i t) → matchBytes f (drop i t) (drop j p) ≡ matchBytes f (drop k t) (drop (j + 1) p)
+      unfolding matchBytes
+      match-plus k e r = rw (r, opened t i lt, opened p j lp, ne-eqb _ _ h, eq-eqb _ _ e, matchBytes)
+
+      module _ (q : getD p j 0 ≡ 43 → ⊥) where
+        pub match-not : (getD p j 0 ≡ getD t i 0 → ⊥) → matchBytes f (drop i t) (drop j p) ≡ false
+        unfolding matchBytes
+        match-not e = rw (opened t i lt, opened p j lp, ne-eqb _ _ h, ne-eqb _ _ q, ne-eqb _ _ e, matchBytes)
+
+        pub match-byte : getD p j 0 ≡ getD t i 0 → matchBytes f (drop i t) (drop j p) ≡ matchBytes f (drop (i + 1) t) (drop (j + 1) p)
+        unfolding matchBytes
+        match-byte e = rw (opened t i lt, opened p j lp, ne-eqb _ _ h, ne-eqb _ _ q, eq-eqb _ _ e, matchBytes)

@@ -1,0 +1,62 @@
+-- `patterns::pattern_refusal` meets its contract: each return by the tests that lead to it, in the order of the definition. Assumes nothing.
+use mathlib.Core.Path.{sym, _∙_}
+use native.Mathlib.Omega.{arith}
+use borrow.Author.Tests.{not-true, not-false}
+use borrow.Author.Needs.{needs}
+use Rattle.topics.proofs.PatternLaws.{refused-empty, refused-long, refused-zero, refused-plus, refused-valid}
+use Rattle.topics.proofs.patterns.pattern_refusal.Statement.{statement}
+use Rattle.topics.proofs.patterns.pattern_refusal.Tie as tie
+
+returns : tie.Need-returns
+returns c = sym (refused-empty (c .before .before .args .pattern .now) (c .if1 .taken))
+
+returns-2 : tie.Need-returns-2
+returns-2 c = sym (refused-long (c .before .before .before .args .pattern .now) (omega arith) (omega arith))
+
+has-byte-requires : tie.Need-has-byte-requires
+has-byte-requires c κs = search needs
+
+returns-3 : tie.Need-returns-3
+returns-3 c =
+    let p = c .before .before .before .before .before .args .pattern .now in
+    sym (refused-zero p (omega arith) (omega arith) (sym (c .before .has-byte .ensures) ∙ c .if3 .taken))
+
+count-byte-requires : tie.Need-count-byte-requires
+count-byte-requires c κs = search needs
+
+returns-4 : tie.Need-returns-4
+returns-4 c =
+    let z = c .before .before in
+    let p = z .before .before .before .before .before .args .pattern .now in
+    sym (refused-plus p (omega arith) (omega arith) (sym (z .before .has-byte .ensures) ∙ z .if3 .left) (omega arith))
+
+validate-mqtt-wildcard-requires : tie.Need-validate-mqtt-wildcard-requires
+validate-mqtt-wildcard-requires c κs = search needs
+
+returns-5 : tie.Need-returns-5
+returns-5 c =
+    let z = c .before .before .before .before in
+    let p = z .before .before .before .before .before .args .pattern .now in
+    let valid = sym (c .before .validate-mqtt-wildcard .ensures) ∙ not-true _ (c .if5 .taken) in
+    rw (refused-valid p (omega arith) (omega arith) (sym (z .before .has-byte .ensures) ∙ z .if3 .left) (omega arith), valid)
+
+returns-6 : tie.Need-returns-6
+returns-6 c =
+    let z = c .before .before .before .before in
+    let p = z .before .before .before .before .before .args .pattern .now in
+    let valid = sym (c .before .validate-mqtt-wildcard .ensures) ∙ not-false _ (c .if5 .left) in
+    rw (refused-valid p (omega arith) (omega arith) (sym (z .before .has-byte .ensures) ∙ z .if3 .left) (omega arith), valid)
+
+pub pattern-refusal-spec : {M : Type 1} → statement M
+pattern-refusal-spec =
+    tie.close
+    (tie.spec
+    returns
+    returns-2
+    has-byte-requires
+    returns-3
+    count-byte-requires
+    returns-4
+    validate-mqtt-wildcard-requires
+    returns-5
+    returns-6)

@@ -1,0 +1,6 @@
+pub mod Hashes
+pub mod Levels
+pub mod Matching
+pub mod Names
+pub mod Patterns
+pub mod Payload

@@ -1,0 +1,88 @@
+-- Document 01, "Topics, level by level": the two matchers. `matchLevels` is the document's definition, for the port and for MQTT 3.1.1 section 4.7 alike:
+-- the flag `emptyLast` says whether `+` takes an empty level that is the topic's last (the standard) or refuses it (the port). `matchBytes` is what the Rust
+-- does on the bytes of any pattern, valid or not; proofs/Meaning.antt shows that the two agree wherever the wildcards are well placed.
+-- Assumes nothing.
+use mathlib.Core.Bool.{Bool, true, false, cond, not, _&&_, _||_}
+use mathlib.Core.List.{List, [], _∷_}
+use Prim.Native.Nat.{ℕ}
+use lib.Dec.{eqb}
+use Rattle.topics.specs.Levels.{levels, none, same, isHash, isPlus}
+use Rattle.topics.specs.Patterns.{patternRefusal}
+use Rattle.topics.specs.declared.matching.StandardMatch.{StandardMatch}
+use Rattle.topics.specs.declared.matching.StandardMatch.the-variants.{Yes, No, OutsideDomain}
+
+-- levels of a topic under levels of a pattern: `#` takes this level and all after it, also none at all; `+` takes one level, an empty last one
+-- only with `emptyLast`; a plain level takes an equal level
+unfoldable pub matchLevels : Bool → List (List ℕ) → List (List ℕ) → Bool
+matchLevels emptyLast [] [] = true
+matchLevels emptyLast [] (p ∷ ps) = isHash p
+matchLevels emptyLast (t ∷ ts) [] = false
+matchLevels emptyLast (t ∷ ts) (p ∷ ps) =
+    elim (isHash p) [
+      | true ↦ true
+      | false ↦
+          elim (isPlus p) [
+            | true ↦ (emptyLast || not (none t && none ts)) && matchLevels emptyLast ts ps
+            | false ↦ same p t && matchLevels emptyLast ts ps
+          ]
+    ]
+
+-- the bytes from the first slash on
+unfoldable pub fromSlash : List ℕ → List ℕ
+fromSlash [] = []
+fromSlash (c ∷ s) = elim (eqb c 47) [ true ↦ c ∷ s | false ↦ fromSlash s ]
+
+-- a list that begins with a byte
+abbrev pub begins : ℕ → List ℕ → Bool
+begins c [] = false
+begins c (b ∷ bs) = eqb b c
+
+-- the rest of a pattern takes no further byte: nothing is left of it, or it goes on with `#` or `/#`
+unfoldable pub takesNone : List ℕ → Bool
+takesNone [] = true
+takesNone (c ∷ p) = elim (eqb c 35) [ true ↦ true | false ↦ eqb c 47 && begins 35 p ]
+
+-- the rest of a pattern at the topic's end: with `emptyLast` a `+` takes the empty level that stands there
+unfoldable pub takesEnd : Bool → List ℕ → Bool
+takesEnd emptyLast [] = true
+takesEnd emptyLast (c ∷ p) = elim (emptyLast && eqb c 43) [ true ↦ takesNone p | false ↦ takesNone (c ∷ p) ]
+
+-- bytes of a topic under bytes of a pattern, from the left
+unfoldable pub matchBytes : Bool → List ℕ → List ℕ → Bool
+matchBytes emptyLast t [] = none t
+matchBytes emptyLast [] (c ∷ p) = takesEnd emptyLast (c ∷ p)
+matchBytes emptyLast (x ∷ t) (c ∷ p) =
+    elim (eqb c 35) [
+      | true ↦ true
+      | false ↦
+          elim (eqb c 43) [
+            | true ↦ matchBytes emptyLast (fromSlash (x ∷ t)) p
+            | false ↦ eqb c x && matchBytes emptyLast t p
+          ]
+    ]
+
+-- what `topic_matches` answers, on any topic and any pattern
+abbrev pub portMatches : List ℕ → List ℕ → Bool
+portMatches topic pattern = matchBytes false topic pattern
+
+-- MQTT 3.1.1 section 4.7, level by level. Names that begin with a dollar sign are matched as any other
+unfoldable pub standardRule : List ℕ → List ℕ → Bool
+standardRule name pattern = matchLevels true (levels name) (levels pattern)
+
+-- what `standard_matches` answers: its domain is a pattern that `add_rule` takes and a name of at least 1 byte
+unfoldable pub standardMatches : List ℕ → List ℕ → StandardMatch
+standardMatches name pattern =
+    cond (eqb (patternRefusal pattern) 0 && not (none name)) (cond (standardRule name pattern) Yes No) OutsideDomain
+
+-- the number of each answer: 0 is none
+abbrev pub numberOf : StandardMatch → ℕ
+numberOf Yes = 0
+numberOf No = 0
+numberOf OutsideDomain = 9
+
+-- a `+` of the pattern stands where the topic's last level is, and that level is empty
+unfoldable pub plusAtEmptyLast : List (List ℕ) → List (List ℕ) → Bool
+plusAtEmptyLast [] ps = false
+plusAtEmptyLast (t ∷ ts) [] = false
+plusAtEmptyLast (t ∷ ts) (p ∷ ps) =
+    elim (isHash p) [ true ↦ false | false ↦ (isPlus p && none t && none ts) || plusAtEmptyLast ts ps ]

@@ -1,0 +1,122 @@
+// The two matchers (document 01, "Topics, level by level"; 000 `topic_matches`). One walk over the bytes serves both; `empty_last` is the one difference.
+use crate::patterns::pattern_refusal;
+ghost use mathlib.Core.Path.{_≡_};
+ghost use Prim.Native.Nat.{_+_, _-_, _≤_};
+ghost use lib.ListN.{length, drop};
+ghost use Rattle.topics.specs.Matching.{fromSlash, takesNone, takesEnd, matchBytes, portMatches, standardMatches};
+
+// What the standard matcher answers; document 01's number 9 is `OutsideDomain`.
+pub enum StandardMatch {
+    Yes,
+    No,
+    OutsideDomain,
+}
+
+// The place of the first slash from `from` on, or the end.
+fn level_end(topic: &[u8], from: usize) -> usize
+    requires { ⌜ from ≤ length (now topic) ⌝ }
+    ensures rest { λ r. ⌜ drop r (now (topic .entry)) ≡ fromSlash (drop from (now (topic .entry))) ⌝ }
+    ensures within { λ r. ⌜ r ≤ length (now (topic .entry)) ⌝ }
+{
+    let mut i = from;
+    while i < topic.len() {
+        if topic[i] == b'/' {
+            return i;
+        }
+        i += 1;
+    }
+    i
+}
+
+// The rest of the pattern takes no further byte.
+fn takes_none(pattern: &[u8], at: usize) -> bool
+    requires { ⌜ at ≤ length (now pattern) ⌝ }
+    ensures { λ r. ⌜ r ≡ takesNone (drop at (now (pattern .entry))) ⌝ }
+{
+    if at == pattern.len() {
+        return true;
+    }
+    let next = at + 1;
+    let c = pattern[at];
+    if c == b'#' {
+        return true;
+    }
+    if c != b'/' {
+        return false;
+    }
+    if next == pattern.len() {
+        return false;
+    }
+    pattern[next] == b'#'
+}
+
+// The rest of the pattern at the topic's end.
+fn takes_end(pattern: &[u8], at: usize, empty_last: bool) -> bool
+    requires { ⌜ at ≤ length (now pattern) ⌝ }
+    ensures { λ r. ⌜ r ≡ takesEnd «empty_last» (drop at (now (pattern .entry))) ⌝ }
+{
+    if at == pattern.len() {
+        return true;
+    }
+    let next = at + 1;
+    if empty_last {
+        if pattern[at] == b'+' {
+            return takes_none(pattern, next);
+        }
+    }
+    takes_none(pattern, at)
+}
+
+// The walk over both: `#` takes the rest, `+` goes to the end of the topic's level, any other byte takes an equal one; at the topic's end `takes_end` decides.
+// The Rust looks ahead after a `+`; the next turns answer the same.
+fn matches_with(topic: &[u8], pattern: &[u8], empty_last: bool) -> bool
+    ensures { λ r. ⌜ r ≡ matchBytes «empty_last» (now (topic .entry)) (now (pattern .entry)) ⌝ }
+{
+    let mut ti = 0;
+    let mut pi = 0;
+    while ti < topic.len() {
+        if pi == pattern.len() {
+            return false;
+        }
+        let c = pattern[pi];
+        let next = pi + 1;
+        if c == b'#' {
+            return true;
+        }
+        if c == b'+' {
+            ti = level_end(topic, ti);
+            pi = next;
+        } else {
+            if c != topic[ti] {
+                return false;
+            }
+            ti += 1;
+            pi = next;
+        }
+    }
+    takes_end(pattern, pi, empty_last)
+}
+
+// The port: as the Rust answers, on any pattern. Its `+` refuses an empty level that is the topic's last.
+pub fn topic_matches(topic: &[u8], pattern: &[u8]) -> bool
+    ensures { λ r. ⌜ r ≡ portMatches (now (topic .entry)) (now (pattern .entry)) ⌝ }
+{
+    matches_with(topic, pattern, false)
+}
+
+// The standard: MQTT 3.1.1 section 4.7, for a pattern that `add_rule` takes and a name of at least 1 byte.
+pub fn standard_matches(name: &[u8], pattern: &[u8]) -> StandardMatch
+    ensures { λ r. ⌜ r ≡ standardMatches (now (name .entry)) (now (pattern .entry)) ⌝ }
+{
+    if pattern_refusal(pattern) != 0 {
+        return StandardMatch::OutsideDomain;
+    }
+    if name.len() == 0 {
+        return StandardMatch::OutsideDomain;
+    }
+    if matches_with(name, pattern, true) {
+        StandardMatch::Yes
+    } else {
+        StandardMatch::No
+    }
+}

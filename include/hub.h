@@ -1,0 +1,73 @@
+/* hub.h: the hub's message monitor for callers in C. Link target/staticlib/libhub.a, which `rt staticlib hub` proves
+ * and writes.
+ *
+ * The caller's duties, for every function here: a pointer is not null and is aligned for its type, also where the
+ * length beside it is 0; the length lies within the object that it points into; what a function writes to overlaps no
+ * other argument. Each call then returns, allocates nothing, keeps no pointer and has no state: equal arguments give
+ * equal answers, on any thread. A bool is 0 or 1. */
+#ifndef HUB_H
+#define HUB_H
+
+#include <stdbool.h>
+#include <stddef.h>
+#include <stdint.h>
+
+/* The two hashes that tell clients apart. */
+struct ClientHashes {
+    uint32_t hash;  /* FNV-1a */
+    uint32_t hash2; /* djb2 */
+};
+
+/* How a trace ended. */
+struct HubTrace {
+    uint32_t number; /* 0 for a whole trace, else the number of its refusal, as in the answer's `end=` line */
+    uint32_t line;   /* the last line of a whole trace, else the refused one; 0 with 27 and 28 */
+    size_t length;   /* how many bytes of answer stand at `out` */
+};
+
+/* FNV-1a of the data, 32 bits. Refuses nothing. */
+uint32_t hub_fnv1a_hash(const uint8_t *data, size_t data_len);
+
+/* djb2 of the data, 32 bits. Refuses nothing. */
+uint32_t hub_djb2_hash(const uint8_t *data, size_t data_len);
+
+/* djb2 of the bytes after the first 32; 0 where there are none. Refuses nothing. */
+uint32_t hub_suffix_hash(const uint8_t *topic, size_t topic_len);
+
+/* Both hashes of a client id; 0 and 0 for an empty one. Refuses nothing. */
+struct ClientHashes hub_client_hashes(const uint8_t *client_id, size_t client_id_len);
+
+/* Writes the payload hash to the 32 bytes at `out`; all zero for no data. Refuses nothing. */
+void hub_compute_payload_hash(const uint8_t *data, size_t data_len, uint8_t out[32]);
+
+/* Whether each `#` is last and alone in its level and each `+` alone in its level; false for an empty pattern.
+ * Refuses nothing. */
+bool hub_validate_mqtt_wildcard(const uint8_t *pattern, size_t pattern_len);
+
+/* 0 for a pattern that a rule may have; 9 for one that is refused: not 1 to 64 bytes, a zero byte, more than three
+ * `+`, or a wildcard out of place. */
+uint32_t hub_pattern_refusal(const uint8_t *pattern, size_t pattern_len);
+
+/* Whether the pattern matches the topic, as the Rust original does it, also for patterns that no rule may have.
+ * Refuses nothing. */
+bool hub_topic_matches(const uint8_t *topic, size_t topic_len, const uint8_t *pattern, size_t pattern_len);
+
+/* The same by MQTT 3.1.1 section 4.7: 0 no, 1 yes. Refuses an empty name and a pattern that no rule may have, with 9. */
+uint32_t hub_standard_matches(const uint8_t *name, size_t name_len, const uint8_t *pattern, size_t pattern_len);
+
+/* Whether a filter is exactly `#`, `+` or `+/#`. Refuses nothing. */
+bool hub_is_broad_wildcard_subscribe(const uint8_t *topic, size_t topic_len);
+
+/* Whether a topic begins with a dollar sign. Refuses nothing. */
+bool hub_starts_with_dollar(const uint8_t *topic, size_t topic_len);
+
+/* Whether a topic holds a zero byte, `+` or `#`. Refuses nothing. */
+bool hub_contains_invalid_publish_char(const uint8_t *topic, size_t topic_len);
+
+/* Reads a whole trace, inspects its messages and writes the answer to the front of `out`: the lines of every message
+ * up to the end or the refused line, then the four closing lines. The rest of `out` is left as it was. Refuses the
+ * text with 9 and 21 to 27; whatever the text, refuses an `out` that the answer does not fit into with 28, line 0,
+ * length 0 and nothing written. */
+struct HubTrace hub_trace(const uint8_t *text, size_t text_len, uint8_t *out, size_t out_len);
+
+#endif

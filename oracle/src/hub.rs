@@ -1,0 +1,120 @@
+//! The exports of the archive target/staticlib/libhub.a, as safe functions on slices. The C declarations stand in
+//! include/hub.h; a slice crosses as pointer and length, and a Rust slice always meets the duties named there.
+
+/// The two hashes that tell clients apart.
+#[repr(C)]
+#[derive(Clone, Copy, Debug, PartialEq, Eq)]
+pub struct ClientHashes {
+    pub hash: u32,
+    pub hash2: u32,
+}
+
+/// How a trace ended: 0 for a whole one or the number of its refusal, the last or refused line, and how many bytes of
+/// answer were written.
+#[repr(C)]
+#[derive(Clone, Copy, Debug, PartialEq, Eq)]
+pub struct HubTrace {
+    pub number: u32,
+    pub line: u32,
+    pub length: usize,
+}
+
+mod raw {
+    use super::{ClientHashes, HubTrace};
+
+    #[rustfmt::skip]
+    unsafe extern "C" {
+        pub fn hub_fnv1a_hash(data: *const u8, data_len: usize) -> u32;
+        pub fn hub_djb2_hash(data: *const u8, data_len: usize) -> u32;
+        pub fn hub_suffix_hash(topic: *const u8, topic_len: usize) -> u32;
+        pub fn hub_client_hashes(client_id: *const u8, client_id_len: usize) -> ClientHashes;
+        pub fn hub_compute_payload_hash(data: *const u8, data_len: usize, out: *mut [u8; 32]);
+        pub fn hub_validate_mqtt_wildcard(pattern: *const u8, pattern_len: usize) -> bool;
+        pub fn hub_pattern_refusal(pattern: *const u8, pattern_len: usize) -> u32;
+        pub fn hub_topic_matches(topic: *const u8, topic_len: usize, pattern: *const u8, pattern_len: usize) -> bool;
+        pub fn hub_standard_matches(name: *const u8, name_len: usize, pattern: *const u8, pattern_len: usize) -> u32;
+        pub fn hub_is_broad_wildcard_subscribe(topic: *const u8, topic_len: usize) -> bool;
+        pub fn hub_starts_with_dollar(topic: *const u8, topic_len: usize) -> bool;
+        pub fn hub_contains_invalid_publish_char(topic: *const u8, topic_len: usize) -> bool;
+        pub fn hub_trace(text: *const u8, text_len: usize, out: *mut u8, out_len: usize) -> HubTrace;
+    }
+}
+
+/// FNV-1a, 32 bits. Refuses nothing.
+#[inline]
+pub fn fnv1a_hash(data: &[u8]) -> u32 {
+    unsafe { raw::hub_fnv1a_hash(data.as_ptr(), data.len()) }
+}
+
+/// djb2, 32 bits. Refuses nothing.
+#[inline]
+pub fn djb2_hash(data: &[u8]) -> u32 {
+    unsafe { raw::hub_djb2_hash(data.as_ptr(), data.len()) }
+}
+
+/// djb2 of what follows the first 32 bytes, 0 for up to 32 bytes. Refuses nothing.
+#[inline]
+pub fn suffix_hash(topic: &[u8]) -> u32 {
+    unsafe { raw::hub_suffix_hash(topic.as_ptr(), topic.len()) }
+}
+
+/// FNV-1a and djb2 of a client id, 0 and 0 for an empty one. Refuses nothing.
+#[inline]
+pub fn client_hashes(client_id: &[u8]) -> ClientHashes {
+    unsafe { raw::hub_client_hashes(client_id.as_ptr(), client_id.len()) }
+}
+
+/// The payload hash, 32 zero bytes for no data. Refuses nothing.
+#[inline]
+pub fn compute_payload_hash(data: &[u8], out: &mut [u8; 32]) {
+    unsafe { raw::hub_compute_payload_hash(data.as_ptr(), data.len(), out) }
+}
+
+/// Whether the wildcards of a pattern are well placed; no for an empty one. Refuses nothing.
+#[inline]
+pub fn validate_mqtt_wildcard(pattern: &[u8]) -> bool {
+    unsafe { raw::hub_validate_mqtt_wildcard(pattern.as_ptr(), pattern.len()) }
+}
+
+/// 0 for a pattern that `add_rule` takes, 9 for one that it refuses.
+#[inline]
+pub fn pattern_refusal(pattern: &[u8]) -> u32 {
+    unsafe { raw::hub_pattern_refusal(pattern.as_ptr(), pattern.len()) }
+}
+
+/// The port's matching, as the Rust does it, invalid patterns included. Refuses nothing.
+#[inline]
+pub fn topic_matches(topic: &[u8], pattern: &[u8]) -> bool {
+    unsafe { raw::hub_topic_matches(topic.as_ptr(), topic.len(), pattern.as_ptr(), pattern.len()) }
+}
+
+/// MQTT 3.1.1 matching: 0 no, 1 yes. Refuses an empty name and a pattern that `add_rule` refuses, with 9.
+#[inline]
+pub fn standard_matches(name: &[u8], pattern: &[u8]) -> u32 {
+    unsafe { raw::hub_standard_matches(name.as_ptr(), name.len(), pattern.as_ptr(), pattern.len()) }
+}
+
+/// Whether a filter is exactly `#`, `+` or `+/#`. Refuses nothing.
+#[inline]
+pub fn is_broad_wildcard_subscribe(topic: &[u8]) -> bool {
+    unsafe { raw::hub_is_broad_wildcard_subscribe(topic.as_ptr(), topic.len()) }
+}
+
+/// Whether a topic begins with a dollar sign. Refuses nothing.
+#[inline]
+pub fn starts_with_dollar(topic: &[u8]) -> bool {
+    unsafe { raw::hub_starts_with_dollar(topic.as_ptr(), topic.len()) }
+}
+
+/// Whether a topic holds a zero byte, `+` or `#`. Refuses nothing.
+#[inline]
+pub fn contains_invalid_publish_char(topic: &[u8]) -> bool {
+    unsafe { raw::hub_contains_invalid_publish_char(topic.as_ptr(), topic.len()) }
+}
+
+/// A whole trace into the front of `out`. Refuses a text with the numbers of its `end=` line: 9, 21 to 27; and an
+/// `out` that is too short with 28, line 0 and nothing written.
+#[inline]
+pub fn trace(text: &[u8], out: &mut [u8]) -> HubTrace {
+    unsafe { raw::hub_trace(text.as_ptr(), text.len(), out.as_mut_ptr(), out.len()) }
+}

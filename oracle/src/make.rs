@@ -1,0 +1,66 @@
+//! Random patterns and topics, for matching by itself and for whole traces.
+
+use crate::tally::Random;
+
+/// The bytes that matching tells apart: each of its signs, and two that it does not know.
+pub const SIGNS: &[u8] = b"/#+$ab";
+
+/// Lengths around which something changes: none, one, the prefix, the pattern, the topic, the payload.
+pub const LENGTHS: [usize; 14] = [0, 1, 31, 32, 33, 63, 64, 65, 127, 128, 129, 255, 256, 257];
+
+/// A pattern of `len` bytes: plain levels, mostly with wildcards put in their proper places, sometimes spoilt.
+pub fn pattern(random: &mut Random, len: usize) -> Vec<u8> {
+    let mut pattern = random.bytes(len, b"ab/$abab");
+    if len == 0 {
+        return pattern;
+    }
+    for _ in 0..random.below(5) {
+        let at = random.below(len);
+        if at > 0 {
+            pattern[at - 1] = b'/';
+        }
+        if at + 1 < len {
+            pattern[at + 1] = b'/';
+        }
+        pattern[at] = b'+';
+    }
+    if random.one_in(2) {
+        pattern[len - 1] = b'#';
+        if len > 1 {
+            pattern[len - 2] = b'/';
+        }
+    }
+    if random.one_in(8) {
+        pattern[random.below(len)] = random.pick(b"/#+$a\0");
+    }
+    pattern
+}
+
+/// A topic of `len` bytes: half of them random, half the pattern with its wildcards filled in, stretched or cut to
+/// the length, sometimes spoilt.
+pub fn topic(random: &mut Random, pattern: &[u8], len: usize) -> Vec<u8> {
+    if random.one_in(2) {
+        return random.bytes(len, SIGNS);
+    }
+    let mut topic = Vec::new();
+    let mut stretch = 0;
+    for &byte in pattern {
+        match byte {
+            b'+' => {
+                stretch = topic.len();
+                let level = random.below(3);
+                topic.extend(random.bytes(level, b"ab$"));
+            }
+            b'#' => stretch = topic.len(),
+            _ => topic.push(byte),
+        }
+    }
+    while topic.len() < len {
+        topic.insert(stretch, b'a');
+    }
+    topic.truncate(len);
+    if len > 0 && random.one_in(8) {
+        topic[random.below(len)] = random.pick(b"/#+$b");
+    }
+    topic
+}
