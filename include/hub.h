@@ -52,7 +52,8 @@ uint32_t hub_pattern_refusal(const uint8_t *pattern, size_t pattern_len);
  * Refuses nothing. */
 bool hub_topic_matches(const uint8_t *topic, size_t topic_len, const uint8_t *pattern, size_t pattern_len);
 
-/* The same by MQTT 3.1.1 section 4.7: 0 no, 1 yes. Refuses an empty name and a pattern that no rule may have, with 9. */
+/* The same by MQTT 3.1.1 section 4.7: 0 no, 1 yes. Refuses an empty name and a pattern that no rule may have, each
+ * with 9. */
 uint32_t hub_standard_matches(const uint8_t *name, size_t name_len, const uint8_t *pattern, size_t pattern_len);
 
 /* Whether a filter is exactly `#`, `+` or `+/#`. Refuses nothing. */

@@ -7,7 +7,7 @@ mod make;
 mod tally;
 
 use hub::ClientHashes;
-use make::{LENGTHS, SIGNS, pattern, topic};
+use make::{BLOCKS, LENGTHS, LIKE_NOBODY, SIGNS, pattern, topic};
 use std::fmt::Debug;
 use tally::{Class, Random};
 use vs_mqtt_monitor::{MqttMonitor, QosPolicy, TopicAction, client_hashes, opened};
@@ -179,18 +179,17 @@ fn rust_payload_hash(data: &[u8]) -> (bool, [u8; 32]) {
     (true, vs_types_embedded::compute_payload_hash(data).0)
 }
 
-/// Topics above 32 bytes that share prefix, length, djb2 and suffix hash, and not FNV-1a: made of two-byte blocks
-/// that move djb2 alike.
+/// Topics above 32 bytes that share prefix, length, djb2 and suffix hash, and not FNV-1a; and a client id with the
+/// hashes of none.
 fn collisions(classes: &mut Vec<Class>) {
     let mut class = Class::new("topics of colliding blocks");
-    let blocks: [&[u8; 2]; 3] = [b"Ez", b"FY", b"G8"];
     let prefix = [b'p'; 32];
-    let first = [&prefix[..], &blocks[0].repeat(4)].concat();
+    let first = [&prefix[..], &BLOCKS[0].repeat(4)].concat();
     let mut apart = 0;
     for choice in 0..81 {
         let mut topic = prefix.to_vec();
         for place in 0..4 {
-            topic.extend(blocks[choice / 3usize.pow(place) % 3]);
+            topic.extend(BLOCKS[choice / 3usize.pow(place) % 3]);
         }
         for (hub, rust) in [
             (hub::djb2_hash(&topic), opened::djb2_hash(&first)),
@@ -201,6 +200,7 @@ fn collisions(classes: &mut Vec<Class>) {
         }
         apart += (hub::fnv1a_hash(&topic) != hub::fnv1a_hash(&first)) as u64;
     }
+    class.same(&[LIKE_NOBODY], hub::client_hashes(LIKE_NOBODY), rust_client_hashes(b""));
     class.seen("told apart by FNV-1a", apart);
     classes.push(class);
 }

@@ -1,4 +1,4 @@
-//! Random patterns and topics, for matching by itself and for whole traces.
+//! Patterns and topics that several programs ask about, and random ones.
 
 use crate::tally::Random;
 
@@ -7,6 +7,13 @@ pub const SIGNS: &[u8] = b"/#+$ab";
 
 /// Lengths around which something changes: none, one, the prefix, the pattern, the topic, the payload.
 pub const LENGTHS: [usize; 14] = [0, 1, 31, 32, 33, 63, 64, 65, 127, 128, 129, 255, 256, 257];
+
+/// Two-byte blocks that move djb2 alike.
+pub const BLOCKS: [[u8; 2]; 3] = [*b"Ez", *b"FY", *b"G8"];
+
+/// A client id whose two hashes are 0, as those of an empty one: blocks found from both ends of FNV-1a, and seven
+/// letters that bring djb2 to 0.
+pub const LIKE_NOBODY: &[u8] = b"FYFYEzG8FYEzEzG8EzG8G8G8EzG8G8G8G8G8EzG8G8EzCaDGLKK";
 
 /// A pattern of `len` bytes: plain levels, mostly with wildcards put in their proper places, sometimes spoilt.
 pub fn pattern(random: &mut Random, len: usize) -> Vec<u8> {

@@ -16,6 +16,10 @@
 //!   x TOPIC 0|1           contains_invalid_publish_char
 //!   $ TOPIC 0|1           starts_with_dollar
 
+mod make;
+mod tally;
+
+use make::{BLOCKS, LENGTHS, LIKE_NOBODY};
 use vs_mqtt_monitor::{MqttMonitor, QosPolicy, TopicAction, client_hashes, opened};
 use vs_types_embedded::{compute_payload_hash, fnv1a_hash};
 
@@ -27,9 +31,6 @@ const PATTERNS: &[&str] = &[
     "a/+/c", "a/+/#", "+/b/#", "+/+/+", "+/+/#", "+/+/+/+", "$a/#", "a#", "a+", "+a", "#/a", "a/#/b", "a+/b", "++",
     "##", "+#", "#a",
 ];
-
-/// Lengths around which something changes: none, one, the prefix, the pattern, the topic, the payload.
-const LENGTHS: [usize; 14] = [0, 1, 31, 32, 33, 63, 64, 65, 127, 128, 129, 255, 256, 257];
 
 fn main() {
     for text in ["a", "b", "foobar", "\0", "sport/tennis", "a\u{1F}\u{7F}"] {
@@ -78,11 +79,12 @@ fn main() {
         matching(&with_end(len, b"/b"), &with_end(len, b"/#"));
         matching(&topic, &with_end(len + 2, b"/#"));
     }
-    for first in ["Ez", "FY", "G8"] {
-        for second in ["Ez", "FY", "G8"] {
-            hashes(format!("{}{first}{second}", "p".repeat(32)).as_bytes());
+    for first in BLOCKS {
+        for second in BLOCKS {
+            hashes(&[&[b'p'; 32][..], &first, &second].concat());
         }
     }
+    hashes(LIKE_NOBODY);
 }
 
 /// `len` bytes of plain text that end in `end`.

@@ -1,0 +1,13 @@
+pub mod BucketLaws
+pub mod DecideLaws
+pub mod IdentityLaws
+pub mod LiveLaws
+pub mod LookupLaws
+pub mod PlaceLaws
+pub mod PrefixLaws
+pub mod RefillLaws
+pub mod RuleLaws
+pub mod ScanLaws
+pub mod ShadowLaws
+pub mod TrackerLaws
+pub mod WindowLaws

@@ -1,0 +1,46 @@
+-- Looking a record up in a table, whatever its records are: `f` at the place of the first that passes a test, else `f` at a newcomer's place `s` with the new
+-- record `w`. CONNECT windows and payload trackers are looked up so. Assumes nothing.
+use mathlib.Core.Path.{_≡_, refl, ap, _∙_}
+use mathlib.Core.Bool.{Bool, true, false, cond, not, _&&_}
+use mathlib.Core.List.{List}
+use Prim.Native.Nat.{ℕ, _<_, _≤_}
+use native.Mathlib.Omega.{arith}
+use borrow.Author.Tests.{lt-ltb, le-ltb, ltb-true, not-true, not-false}
+use lib.Dec.{ltb}
+use lib.ListN.{length, getD}
+use Rattle.topics.proofs.ByteLaws.{by}
+use Rattle.tables.specs.Scan.{find}
+use Rattle.tables.proofs.ScanLaws.{find-lt}
+
+-- a record that has to be live and to pass a test
+module _ (a b : Bool) where
+  pub dead : not a ≡ true → false ≡ (a && b)
+  dead p = let e : a ≡ false = not-true a p in cc
+
+  pub alive : {r : Bool} → not a ≡ false → r ≡ b → r ≡ (a && b)
+  alive p q = let e : a ≡ true = not-false a p in cc
+
+-- whatever passes is live
+pub live-first : (a b : Bool) → (a && b) ≡ true → a ≡ true
+live-first true b p = refl
+live-first false b p = p
+
+module _ {A D : Type 0} (p : A → Bool) (l : List A) (none : A) (f : ℕ → A → D) (s : ℕ) (w : A) where
+  abbrev pub heldOrNew : D
+  heldOrNew = cond (ltb (find p l) (length l)) (f (find p l) (getD l (find p l) none)) (f s w)
+
+  -- the search ended at a record
+  pub held : {i : ℕ} {r : D} → i ≡ find p l → i < length l → r ≡ f i (getD l i none) → r ≡ heldOrNew
+  held e h k = let lt : find p l < length l = omega arith in rw (lt-ltb _ _ lt, ← e) k
+
+  -- it ended at the table's end
+  pub new : {i j : ℕ} {x : A} {r : D} → i ≡ find p l → length l ≤ i → j ≡ s → x ≡ w → r ≡ f j x → r ≡ heldOrNew
+  new {i} {j} {x} e h es ew k =
+      let le : length l ≤ find p l = omega arith in rw (le-ltb _ _ le) (k ∙ ap (λ (n : ℕ). f n x) es ∙ ap (f s) ew)
+
+  -- what is true of `f` at a place that passes, and of the newcomer, is true of the answer
+  pub either : (P : D → Type 0) → ((i : ℕ) → i < length l → p (getD l i none) ≡ true → P (f i (getD l i none))) → P (f s w) → P heldOrNew
+  either P a b =
+      by (ltb (find p l) (length l))
+      (λ e. rw e (a (find p l) (ltb-true _ _ e) (find-lt p l none (ltb-true _ _ e))))
+      (λ e. rw e b)

@@ -1,0 +1,41 @@
+-- The 32 bytes that an identity keeps of its topic: one byte more of them, all of them, and that more than 32 are never compared.
+-- Assumes nothing.
+use mathlib.Core.List.{List, [], _∷_, _++_}
+use mathlib.Core.Path.{_≡_, sym, _∙_}
+use Prim.Native.Nat.{ℕ, suc, _+_, _-_, _<_, min}
+use native.Mathlib.Numerals.{add-one}
+use native.Mathlib.Omega.{arith}
+use lib.Dec.{leb}
+use lib.ListN.{length, take, getD, set, replicate}
+use lib.Seq.{take-all, take-suc, append-snoc, set-at, length-take-le}
+use borrow.Author.Tests.{leb-true, leb-false}
+use Rattle.topics.specs.Levels.{same}
+use Rattle.topics.proofs.ByteLaws.{by}
+use Rattle.tables.specs.Identity.{prefixOf}
+
+-- as many bytes of a list as are taken, where both counts are past its end or equal
+pub take-like : (l : List ℕ) (m n : ℕ) → min m (length l) ≡ min n (length l) → take m l ≡ take n l
+take-like l m n e =
+    by (leb (length l) m)
+    (λ h. take-all m l (leb-true _ _ h) ∙ sym (take-all n l (omega (arith, leb-true (length l) m h))))
+    (λ h. let k : m ≡ n = omega (arith, leb-false (length l) m h) in rw k)
+
+module _ (t : List ℕ) (i : ℕ) where
+  pub prefix-more : i < length t → i < 32 → set (take i t ++ replicate (32 - i) 0) i (getD t i 0) ≡ take (i + 1) t ++ replicate (32 - (i + 1)) 0
+  prefix-more h k =
+      let e : 32 - i ≡ suc (32 - (i + 1)) = omega arith in
+      rw (e, set-at (take i t) 0 (replicate (32 - (i + 1)) 0) (getD t i 0) i (length-take-le i t (omega arith)))
+      (let m : take (i + 1) t ≡ take i t ++ (getD t i 0 ∷ []) = rw (add-one) (take-suc t i 0 h) in
+      rw m (sym (append-snoc (take i t) (getD t i 0) (replicate (32 - (i + 1)) 0))))
+
+  pub prefix-done : i ≡ min (length t) 32 → take i t ++ replicate (32 - i) 0 ≡ prefixOf t
+  unfolding prefixOf
+  prefix-done h =
+      let e : 32 - i ≡ 32 - length t = omega arith in rw (e, take-like t i 32 (omega arith))
+
+-- the bytes of two prefixes by which they are compared, cut at 32 or not
+pub same-cut : (a b : List ℕ) (n : ℕ) {k : ℕ} → length a ≡ 32 → length b ≡ 32 → k ≡ min n 32 → same (take k a) (take k b) ≡ same (take n a) (take n b)
+same-cut a b n {k} la lb e = rw (take-like a k n (omega arith), take-like b k n (omega arith))
+
+pub same-whole : (a b : List ℕ) → length a ≡ 32 → length b ≡ 32 → same (take 32 a) (take 32 b) ≡ same a b
+same-whole a b la lb = rw (take-all 32 a (omega arith), take-all 32 b (omega arith))

@@ -1,0 +1,86 @@
+-- Document 01, "Buckets": one bucket's step, the choice of a place, and what the limiter decides. A decision is the place, the bucket to store there and
+-- which of three ended it; nothing is stored here.
+-- Assumes nothing.
+use mathlib.Core.Bool.{Bool, true, false, cond, not, _&&_, _||_}
+use mathlib.Core.List.{List}
+use Prim.Native.Nat.{ℕ, _+_, _-_, _*_, _/_, min}
+use lib.Dec.{leb, ltb}
+use lib.ListN.{length, getD}
+use Rattle.tables.specs.Identity.{isOf, isRemoved, noId, emptyId}
+use Rattle.tables.specs.Scan.{find, leastOf, placeOf, isThere, any}
+use Rattle.tables.specs.declared.identity.Id.{Id}
+use Rattle.tables.specs.declared.buckets.RateBucket.{RateBucket}
+use Rattle.tables.specs.declared.buckets.Spent.{Spent}
+use Rattle.tables.specs.declared.buckets.RateDecision.{RateDecision}
+use Rattle.tables.specs.declared.buckets.RateCheckResult.{RateCheckResult}
+use Rattle.tables.specs.declared.buckets.RateCheckResult.the-variants.{Allowed, Limited, EvictedAndDenied}
+
+-- the same bucket with other tokens and another refill time
+abbrev pub withTokens : RateBucket → ℕ → ℕ → RateBucket
+withTokens b tokens time =
+    record { id = b .id; tokens = tokens; capacity = b .capacity; «last_refill_us» = time; active = b .active }
+
+-- refill = elapsed x capacity / 1,000,000, rounded down, elapsed 0 if the clock went back
+abbrev pub refill : RateBucket → ℕ → ℕ
+refill b t = (t - b .«last_refill_us») * b .capacity / 1000000
+
+-- if the refill is above 0, tokens rise to at most capacity and the refill time becomes now; otherwise the time stays
+unfoldable pub refilled : RateBucket → ℕ → RateBucket
+refilled b t = cond (ltb 0 (refill b t)) (withTokens b (min (b .tokens + refill b t) (b .capacity)) t) b
+
+-- one token of a bucket is spent, or there is none
+abbrev pub takeToken : RateBucket → Spent
+takeToken b =
+    cond (ltb 0 (b .tokens)) (record { ok = true; bucket = withTokens b (b .tokens - 1) (b .«last_refill_us») }) (record { ok = false; bucket = b })
+
+-- one message of a bucket's identity: refill, then one token is spent or the message is denied
+unfoldable pub spend : RateBucket → ℕ → Spent
+spend b t = takeToken (refilled b t)
+
+-- idle more than 300,000,000
+unfoldable pub isExpired : RateBucket → ℕ → Bool
+isExpired b t = ltb 300000000 (t - b .«last_refill_us»)
+
+-- a live bucket of an identity
+unfoldable pub holdsBucket : Id → RateBucket → Bool
+holdsBucket id b = b .active && isOf id (b .id)
+
+-- a bucket made now: its capacity is the rate
+abbrev pub made : Id → ℕ → ℕ → ℕ → RateBucket
+made id rate tokens t = record { id = id; tokens = tokens; capacity = rate; «last_refill_us» = t; active = true }
+
+-- what stands past a table's end, as the checker reads it
+abbrev pub noBucket : RateBucket
+noBucket = record { id = noId; tokens = 0; capacity = 0; «last_refill_us» = 0; active = false }
+
+-- a message of a held identity
+abbrev pub spentAt : List RateBucket → ℕ → ℕ → RateDecision
+spentAt bs at t =
+    record { at = at; bucket = spend (getD bs at noBucket) t .bucket; result = cond (spend (getD bs at noBucket) t .ok) Allowed Limited }
+
+-- a new identity: first free place; else the expired one with the least refill time; else the least refill time of all, replaced with 0 tokens and
+-- denied. The first place wins a tie
+unfoldable pub newcomer : List RateBucket → Id → ℕ → ℕ → RateDecision
+newcomer bs id rate t =
+    cond (ltb (find (λ b. not (b .active)) bs) (length bs))
+    (record { at = find (λ b. not (b .active)) bs; bucket = made id rate (rate - 1) t; result = Allowed })
+    (cond (isThere (leastOf (λ b. b .«last_refill_us») (λ b. isExpired b t) bs))
+    (record { at = placeOf (leastOf (λ b. b .«last_refill_us») (λ b. isExpired b t) bs); bucket = made id rate (rate - 1) t; result = Allowed })
+    (record { at = placeOf (leastOf (λ b. b .«last_refill_us») any bs); bucket = made id rate 0 t; result = EvictedAndDenied }))
+
+-- what the limiter decides on a message of an identity under a rate
+unfoldable pub decide : List RateBucket → Id → ℕ → ℕ → RateDecision
+decide bs id rate t =
+    cond (ltb (find (holdsBucket id) bs) (length bs)) (spentAt bs (find (holdsBucket id) bs) t) (newcomer bs id rate t)
+
+-- the place of the bucket that a remove call removes; the table's length where it is not held
+unfoldable pub removedBucket : Id → List RateBucket → ℕ
+removedBucket id bs = find (λ b. b .active && isRemoved id (b .id)) bs
+
+-- a free place
+abbrev pub emptyBucket : RateBucket
+emptyBucket = record { id = emptyId; tokens = 0; capacity = 0; «last_refill_us» = 0; active = false }
+
+-- not a live record with a prefix length over 32 (number 10)
+abbrev pub bucketFine : RateBucket → Bool
+bucketFine b = not (b .active) || leb (b .id .«prefix_len») 32

@@ -1,0 +1,6 @@
+pub mod Buckets
+pub mod Identity
+pub mod Rules
+pub mod Scan
+pub mod Trackers
+pub mod Windows

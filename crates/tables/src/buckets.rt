@@ -1,0 +1,318 @@
+// Token buckets (document 01, "Buckets"; 000 `RateBucket`, `rate_limit_check`).
+use crate::identity;
+use crate::identity::Id;
+ghost use mathlib.Core.Path.{_≡_};
+ghost use Prim.Native.Nat.{_+_, _-_, _*_, _/_, min};
+ghost use mathlib.Core.Bool.{not, _&&_};
+ghost use Rattle.tables.specs.Scan.{find, leastOf, placeOf, any};
+ghost use Rattle.tables.specs.Identity.{isRemoved};
+ghost use Rattle.tables.specs.Buckets.{withTokens, refilled, takeToken, spend, isExpired, holdsBucket, made, decide, removedBucket, emptyBucket, bucketFine};
+
+pub struct RateBucket {
+    pub id: Id,
+    pub tokens: u16,
+    pub capacity: u16,
+    pub last_refill_us: u64,
+    pub active: bool,
+}
+
+// A bucket after a message of its identity, and whether the message is within the rate.
+pub struct Spent {
+    pub ok: bool,
+    pub bucket: RateBucket,
+}
+
+// How the limiter ended: a token was spent, there was none, or a live bucket gave way.
+pub enum RateCheckResult {
+    Allowed,
+    Limited,
+    EvictedAndDenied,
+}
+
+// What the limiter decided: `bucket` is to be stored at `at`.
+pub struct RateDecision {
+    pub at: usize,
+    pub bucket: RateBucket,
+    pub result: RateCheckResult,
+}
+
+// The time from `then` on; 0 if the clock went back.
+fn since(then: u64, now_us: u64) -> u64
+    ensures { λ r. ⌜ r ≡ «now_us» - then ⌝ }
+{
+    if now_us <= then {
+        return 0;
+    }
+    now_us - then
+}
+
+// What a time refills, cut at the capacity: a second fills any bucket, so the product never runs over.
+fn refill(elapsed: u64, capacity: u16) -> u16
+    ensures { λ r. ⌜ r ≡ min (elapsed * capacity / 1000000) capacity ⌝ }
+{
+    if 1_000_000 <= elapsed {
+        return capacity;
+    }
+    (elapsed * (capacity as u64) / 1_000_000) as u16
+}
+
+// Tokens and a refill, at most the capacity.
+fn topped(tokens: u16, gain: u16, capacity: u16) -> u16
+    ensures { λ r. ⌜ r ≡ min (tokens + gain) capacity ⌝ }
+{
+    if capacity <= gain {
+        return capacity;
+    }
+    if capacity - gain <= tokens {
+        return capacity;
+    }
+    tokens + gain
+}
+
+fn with_tokens(bucket: RateBucket, tokens: u16, time: u64) -> RateBucket
+    ensures { λ r. ⌜ r ≡ withTokens bucket tokens time ⌝ }
+{
+    let mut next = bucket;
+    next.tokens = tokens;
+    next.last_refill_us = time;
+    next
+}
+
+// A bucket refilled: where the refill is 0 its time stays, so that what was earned is not lost.
+fn refilled(bucket: RateBucket, now_us: u64) -> RateBucket
+    ensures { λ r. ⌜ r ≡ refilled bucket «now_us» ⌝ }
+{
+    let gain = refill(since(bucket.last_refill_us, now_us), bucket.capacity);
+    if gain == 0 {
+        return bucket;
+    }
+    with_tokens(bucket, topped(bucket.tokens, gain, bucket.capacity), now_us)
+}
+
+// One token is spent, or there is none.
+fn take_token(bucket: RateBucket) -> Spent
+    ensures { λ r. ⌜ r ≡ takeToken bucket ⌝ }
+{
+    let tokens = bucket.tokens;
+    if tokens == 0 {
+        return Spent { ok: false, bucket };
+    }
+    let left = with_tokens(bucket, tokens - 1, bucket.last_refill_us);
+    Spent {
+        ok: true,
+        bucket: left,
+    }
+}
+
+// One message of a bucket's identity.
+pub fn consume(bucket: RateBucket, now_us: u64) -> Spent
+    ensures { λ r. ⌜ r ≡ spend bucket «now_us» ⌝ }
+{
+    take_token(refilled(bucket, now_us))
+}
+
+// The same in place, as the Rust has it.
+pub fn try_consume(bucket: &mut RateBucket, now_us: u64) -> bool
+    ensures { λ r. ⌜ (r ≡ spend (now (bucket .entry)) «now_us» .ok) × (now (bucket .exit) ≡ spend (now (bucket .entry)) «now_us» .bucket) ⌝ }
+{
+    let spent = consume(*bucket, now_us);
+    *bucket = spent.bucket;
+    spent.ok
+}
+
+// Idle more than 300 seconds.
+pub fn is_expired(bucket: RateBucket, now_us: u64) -> bool
+    ensures { λ r. ⌜ r ≡ isExpired bucket «now_us» ⌝ }
+{
+    300_000_000 < since(bucket.last_refill_us, now_us)
+}
+
+// A bucket made now: its capacity is the rate.
+fn make(id: Id, rate: u16, tokens: u16, now_us: u64) -> RateBucket
+    ensures { λ r. ⌜ r ≡ made id rate tokens «now_us» ⌝ }
+{
+    RateBucket {
+        id,
+        tokens,
+        capacity: rate,
+        last_refill_us: now_us,
+        active: true,
+    }
+}
+
+// A rate without the token of the message that made the bucket.
+fn less_one(rate: u16) -> u16
+    ensures { λ r. ⌜ r ≡ rate - 1 ⌝ }
+{
+    if rate == 0 {
+        return 0;
+    }
+    rate - 1
+}
+
+// A live bucket of an identity.
+fn holds_bucket(id: Id, bucket: RateBucket) -> bool
+    ensures { λ r. ⌜ r ≡ holdsBucket id bucket ⌝ }
+{
+    if !bucket.active {
+        return false;
+    }
+    let held = bucket.id;
+    identity::is_of(id, held)
+}
+
+// The place of an identity's bucket; 32 where none is held.
+fn find_held(buckets: [RateBucket; 32], id: Id) -> usize
+    ensures { λ r. ⌜ r ≡ find (holdsBucket id) buckets ⌝ }
+{
+    let mut i = 0;
+    while i < 32 {
+        let bucket = buckets[i];
+        if holds_bucket(id, bucket) {
+            return i;
+        }
+        i += 1;
+    }
+    i
+}
+
+// The first free place; 32 where there is none.
+fn find_free(buckets: [RateBucket; 32]) -> usize
+    ensures { λ r. ⌜ r ≡ find (λ b. not (b .active)) buckets ⌝ }
+{
+    let mut i = 0;
+    while i < 32 {
+        let bucket = buckets[i];
+        if !bucket.active {
+            return i;
+        }
+        i += 1;
+    }
+    i
+}
+
+// The place of the least refill time. It counts down, so that the first place wins a tie.
+fn find_oldest(buckets: [RateBucket; 32]) -> usize
+    ensures { λ r. ⌜ r ≡ placeOf (leastOf (λ b. b .«last_refill_us») any buckets) ⌝ }
+{
+    let last = buckets[31];
+    let mut at: usize = 31;
+    let mut time = last.last_refill_us;
+    let mut i: usize = 31;
+    while 0 < i {
+        i -= 1;
+        let bucket = buckets[i];
+        if bucket.last_refill_us <= time {
+            at = i;
+            time = bucket.last_refill_us;
+        }
+    }
+    at
+}
+
+// A bucket made in a free or an expired place: the message is allowed.
+fn granted(at: usize, id: Id, rate: u16, now_us: u64) -> RateDecision
+    ensures { λ r. ⌜ r ≡ record { at = at; bucket = made id rate (rate - 1) «now_us»; result = RateCheckResult.Allowed } ⌝ }
+{
+    let bucket = make(id, rate, less_one(rate), now_us);
+    RateDecision {
+        at,
+        bucket,
+        result: RateCheckResult::Allowed,
+    }
+}
+
+// What the limiter decides on a message of an identity under a rate.
+pub fn rate_limit_check(
+    buckets: [RateBucket; 32],
+    id: Id,
+    max_rate: u16,
+    now_us: u64,
+) -> RateDecision
+    ensures { λ r. ⌜ r ≡ decide buckets id «max_rate» «now_us» ⌝ }
+{
+    let held = find_held(buckets, id);
+    if held < 32 {
+        let bucket = buckets[held];
+        let spent = consume(bucket, now_us);
+        let next = spent.bucket;
+        if spent.ok {
+            return RateDecision {
+                at: held,
+                bucket: next,
+                result: RateCheckResult::Allowed,
+            };
+        }
+        return RateDecision {
+            at: held,
+            bucket: next,
+            result: RateCheckResult::Limited,
+        };
+    }
+    let free = find_free(buckets);
+    if free < 32 {
+        return granted(free, id, max_rate, now_us);
+    }
+    let oldest = find_oldest(buckets);
+    let bucket = buckets[oldest];
+    if is_expired(bucket, now_us) {
+        return granted(oldest, id, max_rate, now_us);
+    }
+    let emptied = make(id, max_rate, 0, now_us);
+    RateDecision {
+        at: oldest,
+        bucket: emptied,
+        result: RateCheckResult::EvictedAndDenied,
+    }
+}
+
+// A live bucket that the remove call asked for.
+fn removes_bucket(id: Id, bucket: RateBucket) -> bool
+    ensures { λ r. ⌜ r ≡ (bucket .active && isRemoved id (bucket .id)) ⌝ }
+{
+    if !bucket.active {
+        return false;
+    }
+    let held = bucket.id;
+    identity::is_removed(id, held)
+}
+
+// The place of the bucket that the remove call removes; 32 where it is not held.
+pub fn removed_bucket(buckets: [RateBucket; 32], id: Id) -> usize
+    ensures { λ r. ⌜ r ≡ removedBucket id buckets ⌝ }
+{
+    let mut i = 0;
+    while i < 32 {
+        let bucket = buckets[i];
+        if removes_bucket(id, bucket) {
+            return i;
+        }
+        i += 1;
+    }
+    i
+}
+
+// A free place.
+pub fn empty_bucket() -> RateBucket
+    ensures { λ r. ⌜ r ≡ emptyBucket ⌝ }
+{
+    let id = identity::empty_id();
+    RateBucket {
+        id,
+        tokens: 0,
+        capacity: 0,
+        last_refill_us: 0,
+        active: false,
+    }
+}
+
+// Not a live bucket with a prefix length over 32 (number 10).
+pub fn bucket_fine(bucket: RateBucket) -> bool
+    ensures { λ r. ⌜ r ≡ bucketFine bucket ⌝ }
+{
+    if !bucket.active {
+        return true;
+    }
+    let held = bucket.id;
+    held.prefix_len <= 32
+}

@@ -1,0 +1,112 @@
+// A topic's identity, made once a message, and the two tests of a held one against it (document 01, "Hashes"; 000 `matches_topic`, `make_topic_prefix`).
+ghost use mathlib.Core.Path.{_≡_};
+ghost use Prim.Native.Nat.{min};
+ghost use lib.ListN.{take};
+ghost use Rattle.topics.specs.Levels.{same};
+ghost use Rattle.tables.specs.Identity.{prefixOf, idOf, isOf, isRemoved, emptyId};
+
+// The Rust keeps these six fields in each bucket and each tracker.
+pub struct Id {
+    pub hash: u32,
+    pub hash2: u32,
+    pub prefix: [u8; 32],
+    pub prefix_len: u8,
+    pub len: u16,
+    pub suffix_hash: u32,
+}
+
+// The lesser of two lengths.
+fn least(a: usize, b: usize) -> usize
+    ensures { λ r. ⌜ r ≡ min a b ⌝ }
+{
+    if a < b { a } else { b }
+}
+
+// The first 32 bytes of a topic, zeros after its end.
+fn prefix_of(topic: &[u8]) -> [u8; 32]
+    ensures { λ r. ⌜ r ≡ prefixOf (now (topic .entry)) ⌝ }
+{
+    let n = least(topic.len(), 32);
+    let mut prefix = [0u8; 32];
+    let mut i = 0;
+    while i < n {
+        prefix[i] = topic[i];
+        i += 1;
+    }
+    prefix
+}
+
+// A topic's identity.
+pub fn id_of(topic: &[u8]) -> Id
+    ensures { λ r. ⌜ r ≡ idOf (now (topic .entry)) ⌝ }
+{
+    Id {
+        hash: topics::hashes::fnv1a_hash(topic),
+        hash2: topics::hashes::djb2_hash(topic),
+        prefix: prefix_of(topic),
+        prefix_len: least(topic.len(), 32) as u8,
+        len: (topic.len() % 65536) as u16,
+        suffix_hash: topics::hashes::suffix_hash(topic),
+    }
+}
+
+// The first `n` bytes of two prefixes, at most all 32, are the same.
+fn same_prefix(a: [u8; 32], b: [u8; 32], n: usize) -> bool
+    ensures { λ r. ⌜ r ≡ same (take n a) (take n b) ⌝ }
+{
+    let cut = least(n, 32);
+    topics::patterns::same_bytes(&a[..cut], &b[..cut])
+}
+
+// A held identity is that of a topic: equal hashes, length, suffix hash and first bytes.
+pub fn is_of(id: Id, held: Id) -> bool
+    ensures { λ r. ⌜ r ≡ isOf id held ⌝ }
+{
+    if held.hash != id.hash {
+        return false;
+    }
+    if held.hash2 != id.hash2 {
+        return false;
+    }
+    if held.len != id.len {
+        return false;
+    }
+    if held.suffix_hash != id.suffix_hash {
+        return false;
+    }
+    let a = held.prefix;
+    let b = id.prefix;
+    same_prefix(a, b, least(id.len as usize, held.prefix_len as usize))
+}
+
+// The test of the two remove calls: no suffix hash, and all 32 bytes.
+pub fn is_removed(id: Id, held: Id) -> bool
+    ensures { λ r. ⌜ r ≡ isRemoved id held ⌝ }
+{
+    if held.hash != id.hash {
+        return false;
+    }
+    if held.hash2 != id.hash2 {
+        return false;
+    }
+    if held.len != id.len {
+        return false;
+    }
+    let a = held.prefix;
+    let b = id.prefix;
+    same_prefix(a, b, 32)
+}
+
+// The identity in a free place.
+pub fn empty_id() -> Id
+    ensures { λ r. ⌜ r ≡ emptyId ⌝ }
+{
+    Id {
+        hash: 0,
+        hash2: 0,
+        prefix: [0; 32],
+        prefix_len: 0,
+        len: 0,
+        suffix_hash: 0,
+    }
+}

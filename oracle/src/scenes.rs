@@ -1,0 +1,571 @@
+//! Random traces, one maker for each thing that the monitor does. A maker aims at the edges of its subject; what it
+//! then really met is counted by the comparison, and `MAKERS` names what each must have met.
+
+use crate::make::{BLOCKS, LIKE_NOBODY, pattern, topic};
+use crate::tally::Random;
+use clock_types::TimestampValidator;
+use std::io::Write;
+use trace::LONGEST;
+use vs_mqtt_monitor::opened::djb2_hash;
+use vs_types_embedded::fnv1a_hash;
+
+const CONNECT: u8 = 1;
+const PUBLISH: u8 = 3;
+const SUBSCRIBE: u8 = 8;
+const UNSUBSCRIBE: u8 = 10;
+const POLICIES: [&str; 7] = ["any", "min0", "min1", "min2", "only0", "only1", "only2"];
+
+/// One maker: its name, itself, and the counters (of traces.rs) that must have moved.
+pub type Maker = (&'static str, fn(&mut Scene), &'static [&'static str]);
+
+pub const MAKERS: &[Maker] = &[
+    ("bursts over more than 32 identities", bursts, &["kind 5", "bucket replaced"]),
+    ("expiry around 300 s", expiry, &["bucket replaced", "bucket expired"]),
+    ("a clock that goes back", clock_back, &["kind 1", "kind 5", "kind 7"]),
+    ("rates 1 to 65535", rates, &["kind 5", "bucket replaced"]),
+    ("CONNECT storms", connects, &["kind 1", "client replaced"]),
+    ("payload trackers", trackers, &["kind 7", "tracker replaced"]),
+    ("topic lengths", lengths, &["kind 2", "kind 5", "kind 7"]),
+    ("equal hashes", equal_hashes, &["kind 1", "kind 5", "kind 7"]),
+    ("wildcards and dollar names in every type", signs, &["kind 3", "kind 9", "kind 10", "kind 11"]),
+    ("every QoS policy", policies, &["kind 3", "kind 4"]),
+    ("blocks with and without payload", blocks, &["kind 3"]),
+    ("many alerts at once", many_alerts, &["four alerts at once"]),
+    ("up to 32 rules", rule_tables, &["kind 3", "kind 4", "end 9"]),
+    ("all at once", mixture, &["kind 8"]),
+    ("around the longest text", longest, &["end 0", "end 27"]),
+    ("small", small, &["end 0"]),
+];
+
+/// The maker for the original's own TimestampValidator.
+pub const CLOCK: Maker = ("the original's own verdicts", real_clock, &["kind 1", "kind 5", "kind 8"]);
+
+/// Pairs of topics with equal FNV-1a, and but for the last with equal djb2 too.
+pub struct Pairs {
+    /// Equal length, different among the first 32 bytes or just in the last of them: two identities.
+    apart: Vec<Pair>,
+    /// Equal length and first 32 bytes: one identity.
+    one: Vec<Pair>,
+    /// Equal first 32 bytes and suffix hash: two identities by their length alone.
+    by_length: Vec<Pair>,
+    /// Two clients, by their djb2 alone.
+    by_djb2: Vec<Pair>,
+}
+
+type Pair = [Vec<u8>; 2];
+
+impl Pairs {
+    pub fn search() -> Pairs {
+        // djb2 of this prefix is its start, so that behind it djb2 and the suffix hash are the same.
+        let prefix = completed(&[b'p'; 25], 5381);
+        let lengths: [&[u8]; 2] = [b"", b"x"];
+        let longer = lengths
+            .iter()
+            .flat_map(|middle| blocks_after(&prefix).map(move |start| completed(&[&start[..], middle].concat(), 5381)));
+        let mut apart = colliding(blocks_after(b""));
+        apart.extend(colliding(blocks_after(&[b'p'; 31])).into_iter().filter(|[a, b]| a[31] != b[31]));
+        let mut by_length = colliding(longer);
+        by_length.retain(|[a, b]| a.len() != b.len());
+        let mut random = Random(1);
+        let by_djb2 = colliding((0..300_000).map(|_| random.bytes(12, b"abcdefgh")));
+        let pairs = Pairs { apart, one: colliding(blocks_after(&[b'p'; 32])), by_length, by_djb2 };
+        assert!(pairs.apart.iter().any(|[a, _]| a.len() > 32), "no pair that differs in byte 32");
+        assert!(pairs.one.iter().any(|[a, b]| a[32] != b[32]), "no pair that differs in byte 33");
+        assert!(!pairs.by_length.is_empty(), "no pair that differs in length");
+        assert!(pairs.by_djb2.iter().any(|[a, b]| djb2_hash(a) != djb2_hash(b)), "no pair that differs in djb2");
+        pairs
+    }
+
+    fn pick(&self, random: &mut Random) -> &Pair {
+        let kind = [&self.apart, &self.one, &self.one, &self.by_length][random.below(4)];
+        &kind[random.below(kind.len())]
+    }
+}
+
+/// The prefix with eleven two-byte blocks, in every way: all of them have one djb2.
+fn blocks_after(prefix: &[u8]) -> impl Iterator<Item = Vec<u8>> {
+    (0..3usize.pow(11)).map(move |choice| {
+        let blocks = (0..11).flat_map(|place| &BLOCKS[choice / 3usize.pow(place) % 3]);
+        prefix.iter().chain(blocks).copied().collect()
+    })
+}
+
+/// The bytes with seven more, so that their djb2 is `target`: what is missing, written in base 33.
+fn completed(start: &[u8], target: u32) -> Vec<u8> {
+    let mut missing = target.wrapping_sub(djb2_hash(&[start, b"AAAAAAA"].concat()));
+    let mut last = [b'A'; 7];
+    for letter in last.iter_mut().rev() {
+        *letter += (missing % 33) as u8;
+        missing /= 33;
+    }
+    let whole = [start, &last].concat();
+    assert_eq!(djb2_hash(&whole), target);
+    whole
+}
+
+/// The topic with its last block made another: djb2 stays, FNV-1a does not.
+fn reblocked(topic: &[u8]) -> Vec<u8> {
+    let which = |two: &[u8]| BLOCKS.iter().position(|block| block == two);
+    let place = topic.windows(2).rposition(|two| which(two).is_some()).expect("a topic of blocks");
+    let next = which(&topic[place..place + 2]).map_or(0, |block| (block + 1) % 3);
+    [&topic[..place], &BLOCKS[next], &topic[place + 2..]].concat()
+}
+
+/// Those of the topics that share FNV-1a with another.
+fn colliding(topics: impl Iterator<Item = Vec<u8>>) -> Vec<Pair> {
+    let mut hashed: Vec<(u32, Vec<u8>)> = topics.map(|topic| (fnv1a_hash(&topic), topic)).collect();
+    hashed.sort_unstable();
+    let equal = hashed.windows(2).filter(|two| two[0].0 == two[1].0);
+    equal.map(|two| [two[0].1.clone(), two[1].1.clone()]).collect()
+}
+
+/// A trace in the making.
+pub struct Scene<'a> {
+    pub random: Random,
+    pairs: &'a Pairs,
+    /// Decides the verdicts; without it they are good 15 times in 16.
+    clock: Option<TimestampValidator>,
+    full: bool,
+    text: Vec<u8>,
+}
+
+struct Rule {
+    pattern: Vec<u8>,
+    block: bool,
+    qos: &'static str,
+    rate: u16,
+}
+
+fn allow(pattern: &[u8], rate: u16) -> Rule {
+    Rule { pattern: pattern.to_vec(), block: false, qos: "any", rate }
+}
+
+fn hex(bytes: &[u8]) -> String {
+    bytes.iter().map(|byte| format!("{byte:02x}")).collect()
+}
+
+/// One trace of a maker.
+pub fn make(maker: &Maker, seed: u64, pairs: &Pairs) -> Vec<u8> {
+    let clock = (maker.0 == CLOCK.0).then(TimestampValidator::new);
+    let mut scene = Scene { random: Random(seed), pairs, clock, full: false, text: Vec::new() };
+    maker.1(&mut scene);
+    scene.text
+}
+
+impl Scene<'_> {
+    /// Writes the opening; the default is block once in `blocks` times, never for 0.
+    fn opening(&mut self, blocks: usize, rules: &[Rule]) {
+        let word = |block| if block { "block" } else { "allow" };
+        let block = blocks > 0 && self.random.one_in(blocks);
+        write!(self.text, "default={}\nrules={}\n", word(block), rules.len()).unwrap();
+        for Rule { pattern, block, qos, rate } in rules {
+            let (pattern, action) = (hex(pattern), word(*block));
+            write!(self.text, "pattern={pattern}\naction={action}\nqos={qos}\nrate={rate}\n").unwrap();
+        }
+    }
+
+    /// Adds a message, unless the text would grow too long; then no more follow.
+    fn message(&mut self, kind: u8, at: u64, topic: &[u8], size: u16, payload: &[u8]) {
+        let good = match &mut self.clock {
+            Some(clock) => clock.validate(at),
+            None => !self.random.one_in(16),
+        };
+        let (clock, qos) = (if good { "ok" } else { "bad" }, self.random.below(3));
+        let (topic, payload) = (hex(topic), hex(payload));
+        let lines =
+            format!("at={at}\nclock={clock}\ntype={kind}\nqos={qos}\ntopic={topic}\nsize={size}\npayload={payload}\n");
+        self.full |= self.text.len() + lines.len() > LONGEST;
+        if !self.full {
+            self.text.extend(lines.as_bytes());
+        }
+    }
+
+    fn publish(&mut self, at: u64, topic: &[u8]) {
+        let size = self.random.pick(&[0, 0, 1, 65_535]);
+        self.message(PUBLISH, at, topic, size, b"");
+    }
+
+    fn payload(&mut self) -> Vec<u8> {
+        let len = self.random.pick(&[0, 0, 0, 1, 2, 31, 32, 64, 255, 256]);
+        (0..len).map(|_| self.random.next() as u8).collect()
+    }
+
+    fn size(&mut self) -> u16 {
+        let any = self.random.next() as u16;
+        self.random.pick(&[0, 1, 2, 10, 40, 41, 255, 256, 257, 65_534, 65_535, any])
+    }
+}
+
+fn bursts(scene: &mut Scene) {
+    let rate = scene.random.pick(&[1, 2, 3, 10, 1000, 65_535]);
+    scene.opening(0, &[allow(b"m/+", rate)]);
+    let topics = 30 + scene.random.below(16);
+    let mut now = 0;
+    for _ in 0..200 {
+        now += scene.random.below(300_000) as u64;
+        let topic = format!("m/{}", scene.random.below(topics));
+        scene.publish(now, topic.as_bytes());
+    }
+}
+
+/// Fills all 32 places, then comes back 300 s after one of the times seen, or just before or after that.
+fn expiry(scene: &mut Scene) {
+    let rate = scene.random.pick(&[1, 2, 50]);
+    scene.opening(0, &[allow(b"#", rate)]);
+    let step = scene.random.pick(&[0, 1, 1000, 5_000_000]);
+    let start = scene.random.pick(&[0, 1, 1_000_000, u64::MAX - 1_000_000_000]);
+    let mut times = Vec::new();
+    for i in 0..32 {
+        times.push(start + i * step);
+        scene.publish(start + i * step, format!("{i}").as_bytes());
+    }
+    for i in 32..92 {
+        let mark = scene.random.pick(&times);
+        let now = mark.saturating_add(299_999_998 + scene.random.below(5) as u64);
+        let identity = if scene.random.one_in(3) { scene.random.below(i) } else { i };
+        times.push(now);
+        scene.publish(now, format!("{identity}").as_bytes());
+    }
+}
+
+fn clock_back(scene: &mut Scene) {
+    let rate = scene.random.pick(&[1, 2, 3]);
+    scene.opening(0, &[allow(b"#", rate)]);
+    let topics = scene.random.pick(&[1, 3, 40]);
+    let mut now = scene.random.pick(&[0, 1_000_000_000, u64::MAX - 10]);
+    for _ in 0..150 {
+        let step = scene.random.pick(&[0, 1, 1000, 400_000, 1_000_000, 60_000_000, 300_000_001, 4_000_000_000]);
+        now = if scene.random.one_in(2) { now.saturating_sub(step) } else { now.saturating_add(step) };
+        let topic = format!("t{}", scene.random.below(topics));
+        let (kind, size) = (scene.random.pick(&[CONNECT, PUBLISH, PUBLISH, PUBLISH]), scene.size());
+        scene.message(kind, now, topic.as_bytes(), size, b"");
+    }
+}
+
+/// A bucket that took another's place starts empty, so that the largest rate runs dry too; then steps around the
+/// time of one token.
+fn rates(scene: &mut Scene) {
+    let rate: u16 = scene.random.pick(&[1, 2, 3, 7, 1000, 65_534, 65_535]);
+    scene.opening(0, &[allow(b"#", rate)]);
+    for i in 0..33 {
+        scene.publish(0, format!("{i}").as_bytes());
+    }
+    let unit = 1_000_000 / u64::from(rate);
+    let mut steps = vec![0, 1, unit - 1, unit, unit + 1, 2 * unit];
+    if rate < 10 {
+        steps.extend([500_000, 999_999, 1_000_000, 1_000_001, 5_000_000]);
+    }
+    let mut now = 0;
+    for _ in 0..120 {
+        now += scene.random.pick(&steps);
+        scene.publish(now, b"32");
+    }
+}
+
+/// Rounds of four CONNECTs of one client and a fifth when the first leaves the window, others between them. Now and
+/// then all clients come at one instant, or the clock goes back to an earlier round.
+fn connects(scene: &mut Scene) {
+    scene.opening(2, &[]);
+    let pairs = scene.pairs;
+    let mut clients = [&pairs.apart[0][..], &pairs.by_length[0], &pairs.by_djb2[0]].concat();
+    clients.extend([reblocked(&pairs.apart[0][0]), LIKE_NOBODY.to_vec(), vec![]]);
+    clients.extend((0..15).map(|i| format!("client {i}").into_bytes()));
+    let known = scene.random.pick(&[1, 4, 9, 16, 17, 24]);
+    clients.rotate_left(scene.random.below(24));
+    clients.truncate(known);
+    let mut starts = vec![scene.random.pick(&[0, 1_000_000, 10_000_000_000])];
+    for _ in 0..30 {
+        let back = scene.random.below(starts.len());
+        let start = if scene.random.one_in(6) { starts[back] } else { starts[starts.len() - 1] };
+        if scene.random.one_in(6) {
+            clients.iter().for_each(|client| scene.message(CONNECT, start, client, 0, b""));
+        }
+        let client = &clients[scene.random.below(known)];
+        let mut offsets: Vec<u64> = (0..3).map(|_| scene.random.below(60_000_000) as u64).collect();
+        offsets.sort_unstable();
+        let last = 59_999_999 + scene.random.below(3) as u64;
+        for offset in [0, offsets[0], offsets[1], offsets[2], last] {
+            scene.message(CONNECT, start + offset, client, 0, b"");
+            if scene.random.one_in(3) {
+                let kind = scene.random.pick(&[CONNECT, CONNECT, PUBLISH, 14]);
+                let other = &clients[scene.random.below(known)];
+                scene.message(kind, start + offset, other, 0, b"");
+            }
+        }
+        starts.push(start + scene.random.pick(&[0, 1, 60_000_000, 60_000_001, 200_000_000]));
+    }
+}
+
+/// The mean of one topic as document 01 has it, to aim sizes at its threshold.
+#[derive(Clone, Copy, Default)]
+struct Mean {
+    scaled: u32,
+    samples: u32,
+}
+
+impl Mean {
+    fn threshold(self) -> u32 {
+        if self.samples < 8 { 0 } else { self.scaled * 4 / 256 }
+    }
+
+    fn feed(&mut self, size: u32) {
+        self.scaled = match self.samples {
+            0 => size * 256,
+            1..=6 => (self.scaled + size * 256).min(8 * 65_536),
+            7 => (self.scaled + size * 256) / 8,
+            _ => (size * 32 + 224 * self.scaled / 256).min(65_536),
+        };
+        self.samples += 1;
+    }
+}
+
+fn trackers(scene: &mut Scene) {
+    let rate = scene.random.pick(&[0, 1, 65_535]);
+    scene.opening(0, &[allow(b"#", rate)]);
+    let topics = scene.random.pick(&[1, 2, 15, 16, 17, 20]);
+    let base = scene.random.pick(&[1, 2, 10, 64, 255, 256, 257, 512, 2048, 65_535]);
+    let mut means = vec![Mean::default(); topics];
+    let back = scene.random.one_in(2);
+    let mut now: u64 = 5000;
+    for _ in 0..if topics == 1 { 400 } else { 250 } {
+        let step: u64 = scene.random.pick(&[0, 0, 1, 1000]);
+        now = if back && scene.random.one_in(2) { now.saturating_sub(step) } else { now + step };
+        let choice = scene.random.below(topics);
+        let threshold = means[choice].threshold();
+        let aimed =
+            [threshold, threshold + 1, 4 * base, 4 * base + 1, scene.size().into(), 0, 1, base, base, base, base];
+        let size = scene.random.pick(&aimed).min(65_535);
+        if size > 0 {
+            means[choice].feed(size);
+        }
+        let payload = if scene.random.one_in(4) { scene.payload() } else { vec![] };
+        scene.message(PUBLISH, now, format!("{choice}").as_bytes(), size as u16, &payload);
+    }
+}
+
+/// Topics of the lengths around which the identity changes, that differ in one byte or in none.
+fn lengths(scene: &mut Scene) {
+    let rate = scene.random.pick(&[0, 1, 3]);
+    scene.opening(4, &[allow(b"#", rate)]);
+    let mut now = 0;
+    for _ in 0..150 {
+        now += scene.random.below(200_000) as u64;
+        let len: usize = scene.random.pick(&[0, 1, 31, 32, 33, 127, 128]);
+        let mut topic = vec![b'a'; len];
+        let place = scene.random.pick(&[0, 30, 31, 32, len.saturating_sub(1), 128]);
+        if let Some(byte) = topic.get_mut(place) {
+            *byte = b'b';
+        }
+        let kind = scene.random.pick(&[CONNECT, PUBLISH, PUBLISH, PUBLISH, PUBLISH, SUBSCRIBE, UNSUBSCRIBE]);
+        let size = scene.size();
+        scene.message(kind, now, &topic, size, b"");
+    }
+}
+
+/// Two topics of equal hashes, with one rule for both or one for each.
+fn equal_hashes(scene: &mut Scene) {
+    let pair = scene.pairs.pick(&mut scene.random);
+    let rules = if scene.random.one_in(2) {
+        vec![allow(&pair[0], 1), allow(&pair[1], 3), allow(b"#", 0)]
+    } else {
+        vec![allow(b"+", scene.random.pick(&[1, 2, 5]))]
+    };
+    scene.opening(0, &rules);
+    let near = reblocked(&pair[0]);
+    let topics = [&pair[0], &pair[1], &near];
+    let mut now = 0;
+    for turn in 0..150 {
+        let topic = if turn < 2 { topics[turn] } else { scene.random.pick(&topics) };
+        let (kind, size) = (scene.random.pick(&[PUBLISH, PUBLISH, PUBLISH, CONNECT]), scene.size());
+        scene.message(kind, now, topic, size, b"");
+        now += scene.random.below(400_000) as u64;
+    }
+}
+
+/// Names with wildcards, dollar signs, zero bytes and empty levels, in every packet type.
+fn signs(scene: &mut Scene) {
+    let patterns: [&[u8]; 9] = [b"#", b"+", b"+/#", b"$SYS/#", b"$SYS/+", b"$share/#", b"/+", b"a/#", b"+/a"];
+    let topics: [&[u8]; 20] = [
+        b"",
+        b"a",
+        b"/",
+        b"//",
+        b"a/",
+        b"/a",
+        b"a/a",
+        b"#",
+        b"+",
+        b"+/#",
+        b"+/+",
+        b"a/#",
+        b"+a",
+        b"$",
+        b"$SYS",
+        b"$SYS/a",
+        b"$SYS/+",
+        b"$share/g/#",
+        b"a\0b",
+        b"\0",
+    ];
+    let count = scene.random.below(5);
+    let rules: Vec<Rule> = (0..count)
+        .map(|_| {
+            let pattern = scene.random.pick(&patterns);
+            Rule { block: scene.random.one_in(3), qos: scene.random.pick(&POLICIES), ..allow(pattern, 2) }
+        })
+        .collect();
+    scene.opening(2, &rules);
+    for turn in 0..150 {
+        let kind = if scene.random.one_in(2) { SUBSCRIBE } else { 1 + (turn % 15) as u8 };
+        let (topic, size) = (scene.random.pick(&topics), scene.size());
+        scene.message(kind, turn * 100_000, topic, size, b"");
+    }
+}
+
+fn policies(scene: &mut Scene) {
+    let rules: Vec<Rule> = (0..7)
+        .map(|i| Rule { block: scene.random.one_in(8), qos: POLICIES[i], ..allow(format!("p{i}/+").as_bytes(), 1) })
+        .collect();
+    scene.opening(0, &rules);
+    for turn in 0..150 {
+        let topic = format!("p{}/x", scene.random.below(8));
+        let (kind, size) = (scene.random.pick(&[PUBLISH, SUBSCRIBE, UNSUBSCRIBE]), scene.size());
+        scene.message(kind, turn * 300_000, topic.as_bytes(), size, b"");
+    }
+}
+
+fn blocks(scene: &mut Scene) {
+    let rules = [Rule { block: true, ..allow(b"a/#", 5) }, allow(b"b/#", 0)];
+    scene.opening(2, &rules);
+    for turn in 0..150 {
+        let topic: &[u8] = scene.random.pick(&[&b"a/1"[..], b"b/1", b"c"]);
+        let kind = scene.random.pick(&[PUBLISH, PUBLISH, SUBSCRIBE, UNSUBSCRIBE]);
+        let (size, payload) = (scene.size(), scene.payload());
+        scene.message(kind, turn, topic, size, &payload);
+    }
+}
+
+/// A mean at its ceiling, a spent bucket and a policy that is mostly broken: with a bad verdict, four alerts.
+fn many_alerts(scene: &mut Scene) {
+    let rule = Rule { qos: "only2", ..allow(b"#", 1) };
+    scene.opening(0, &[rule]);
+    for turn in 0..150 {
+        let (topic, payload) = (scene.random.pick(&[b"a", b"b"]), scene.payload());
+        let size = if turn < 20 { 65_535 } else { scene.random.pick(&[1023, 1024, 1025, 65_535]) };
+        scene.message(PUBLISH, turn * 100_000, topic, size, &payload);
+    }
+}
+
+/// Full, short and empty tables of rules; some patterns come twice, and now and then one is refused.
+fn rule_tables(scene: &mut Scene) {
+    let count = scene.random.pick(&[0, 1, 5, 31, 32, 32, 32]);
+    let pool: [&[u8]; 6] = [b"a/#", b"a/+", b"+/b", b"a/b", b"+/+/+", b"#"];
+    let refused = scene.random.one_in(4);
+    let mut rules = Vec::new();
+    while rules.len() < count {
+        let len = scene.random.pick(&[1, 2, 3, 5, 8, 13, 31, 32, 33, 63, 64]);
+        let mut chosen = pattern(&mut scene.random, len);
+        if scene.random.one_in(3) {
+            chosen = scene.random.pick(&pool[..]).to_vec();
+        }
+        if refused && rules.len() == count / 2 {
+            let len = scene.random.pick(&[0, 7, 65, 128]);
+            chosen = pattern(&mut scene.random, len);
+        } else if refusal(&chosen) {
+            continue;
+        }
+        let (block, qos) = (scene.random.one_in(4), scene.random.pick(&POLICIES));
+        rules.push(Rule { pattern: chosen, block, qos, rate: scene.random.pick(&[0, 1, 2, 65_535]) });
+    }
+    scene.opening(2, &rules);
+    for turn in 0..120 {
+        let wanted = if rules.is_empty() { b"a/b" } else { &rules[scene.random.below(count)].pattern[..] };
+        let len = scene.random.pick(&[1, 3, 5, wanted.len(), wanted.len() + 1, 64, 128]).min(128);
+        let name = topic(&mut scene.random, wanted, len);
+        let kind = scene.random.pick(&[PUBLISH, PUBLISH, PUBLISH, SUBSCRIBE, UNSUBSCRIBE]);
+        let size = scene.size();
+        scene.message(kind, turn * 200_000, &name, size, b"");
+    }
+}
+
+/// Whether the original's `add_rule` refuses a pattern.
+fn refusal(pattern: &[u8]) -> bool {
+    use vs_mqtt_monitor::{MqttMonitor, QosPolicy, TopicAction};
+    MqttMonitor::new().add_rule(pattern, TopicAction::Allow, QosPolicy::Any, 0).is_err()
+}
+
+fn mixture(scene: &mut Scene) {
+    let rules = [
+        Rule { qos: scene.random.pick(&POLICIES), ..allow(b"m/#", 2) },
+        Rule { block: true, ..allow(b"admin/#", 0) },
+        Rule { qos: scene.random.pick(&POLICIES), ..allow(b"+/+", 0) },
+        allow(b"$SYS/#", 1),
+    ];
+    let held = scene.random.below(5);
+    scene.opening(2, &rules[..held]);
+    let mut now = scene.random.next() >> scene.random.below(64);
+    for _ in 0..200 {
+        let step = scene.random.pick(&[0, 1, 1000, 100_000, 1_000_000, 30_000_000, 300_000_000]);
+        now = if scene.random.one_in(10) { now.saturating_sub(step) } else { now.saturating_add(step) };
+        let root = scene.random.pick(&["m", "admin", "x", "$SYS", "+", "#", ""]);
+        let topic = format!("{root}/{}", scene.random.below(20));
+        let kind = if scene.random.one_in(4) { 1 + scene.random.below(15) as u8 } else { PUBLISH };
+        let size = scene.size();
+        let payload = if scene.random.one_in(8) { scene.payload() } else { vec![] };
+        scene.message(kind, now, topic.as_bytes(), size, &payload);
+    }
+}
+
+/// A whole trace of exactly the longest length or a little less, or one that is longer.
+fn longest(scene: &mut Scene) {
+    let goal = LONGEST - scene.random.below(3);
+    scene.opening(2, &[allow(b"#", 1)]);
+    while goal - scene.text.len() > 600 {
+        let topic = format!("{}", scene.random.below(40));
+        let size = scene.size();
+        scene.message(PUBLISH, scene.text.len() as u64 * 20_000, topic.as_bytes(), size, b"");
+    }
+    // The last one or two fill what is left: a payload by two digits a byte, the time by one more digit.
+    let least = "at=1\nclock=ok\ntype=3\nqos=0\ntopic=\nsize=0\npayload=\n".len();
+    while scene.text.len() < goal {
+        let room = goal - scene.text.len() - least;
+        let payload = if room > 512 { "61".repeat(100) } else { "61".repeat(room / 2) };
+        let at = if room <= 512 && room % 2 == 1 { "10" } else { "1" };
+        write!(scene.text, "at={at}\nclock=ok\ntype=3\nqos=0\ntopic=\nsize=0\npayload={payload}\n").unwrap();
+    }
+    if scene.random.one_in(3) {
+        let more = scene.random.pick(&[1, 2, 100, 1_000_000]) + LONGEST - goal;
+        scene.text.extend(vec![b'\n'; more]);
+    }
+}
+
+fn small(scene: &mut Scene) {
+    let count = scene.random.below(3);
+    let rules: Vec<Rule> = (0..count).map(|_| allow(scene.random.pick(&[&b"#"[..], b"a/+", b"b"]), 1)).collect();
+    scene.opening(2, &rules);
+    for turn in 0..scene.random.below(4) as u64 {
+        let payload = scene.payload();
+        scene.message(PUBLISH, turn * 500_000, b"a/b", 1, &payload);
+    }
+}
+
+/// Steps around the largest that the validator takes forwards and backwards.
+fn real_clock(scene: &mut Scene) {
+    scene.opening(0, &[allow(b"#", 1)]);
+    let mut times = vec![scene.random.pick(&[0, 5_000_000, 1 << 40, u64::MAX - 10_000_000_000])];
+    for _ in 0..150 {
+        let from = times[times.len() - 1 - scene.random.below(times.len().min(3))];
+        let near = scene.random.below(4) as u64;
+        let now = match scene.random.below(6) {
+            0 => from.saturating_add(3_599_999_998 + near),
+            1 => from.saturating_sub(9_999_998 + near),
+            2 => from.saturating_sub(near),
+            _ => from.saturating_add(400_000 * near),
+        };
+        times.push(now);
+        let kind = scene.random.pick(&[CONNECT, PUBLISH, PUBLISH]);
+        let topic = format!("{}", scene.random.below(3));
+        let size = scene.size();
+        scene.message(kind, now, topic.as_bytes(), size, b"");
+    }
+}
