@@ -1,26 +1,18 @@
 -- Looking a record up in a table, whatever its records are: `f` at the place of the first that passes a test, else `f` at a newcomer's place `s` with the new
 -- record `w`. CONNECT windows and payload trackers are looked up so. Assumes nothing.
 use mathlib.Core.Path.{_≡_, refl, ap, _∙_}
-use mathlib.Core.Bool.{Bool, true, false, cond, not, _&&_}
+use mathlib.Core.Bool.{Bool, true, false, cond, _&&_}
 use mathlib.Core.List.{List}
 use Prim.Native.Nat.{ℕ, _<_, _≤_}
 use native.Mathlib.Omega.{arith}
-use borrow.Author.Tests.{lt-ltb, le-ltb, ltb-true, not-true, not-false}
+use borrow.Author.Tests.{lt-ltb, le-ltb, ltb-true}
 use lib.Dec.{ltb}
 use lib.ListN.{length, getD}
 use Rattle.topics.proofs.ByteLaws.{by}
 use Rattle.tables.specs.Scan.{find}
 use Rattle.tables.proofs.ScanLaws.{find-lt}
 
--- a record that has to be live and to pass a test
-module _ (a b : Bool) where
-  pub dead : not a ≡ true → false ≡ (a && b)
-  dead p = let e : a ≡ false = not-true a p in cc
-
-  pub alive : {r : Bool} → not a ≡ false → r ≡ b → r ≡ (a && b)
-  alive p q = let e : a ≡ true = not-false a p in cc
-
--- whatever passes is live
+-- a record that has to be live and to pass a test: whatever passes is live
 pub live-first : (a b : Bool) → (a && b) ≡ true → a ≡ true
 live-first true b p = refl
 live-first false b p = p

@@ -1,5 +1,5 @@
--- `buckets::find_free` meets its contract. The invariant: `i` is at most 32, and the place in the whole table stands `i` places before the rest from `i` on.
--- The measure is what is left of 32. Assumes nothing.
+-- `buckets::find_free` meets its contract. The invariant: `i` is at most 32, and what is sought in the whole table stands `i` places further than in what is left
+-- of it from `i` on. The measure is what is left of 32. Assumes nothing.
 use mathlib.Core.Path.{_≡_}
 use mathlib.Core.Bool.{not}
 use Prim.Native.Nat.{_≤_, _-_, _+_}
@@ -28,7 +28,10 @@ array-copy-out-bucket : tie.Need-array-copy-out-bucket Inv-loop μ-loop
 array-copy-out-bucket c = search needs
 
 returns : tie.Need-returns Inv-loop μ-loop
-returns c = let n : length (c .before .before .before .before .before .args .t1) ≡ 32 = search needs in find-here _ _ noBucket (omega arith) (c .before .before .before .before .loop .inv .1) (c .if1 .taken)
+returns c =
+    let l = c .before .before .before .before in
+    let n : length (l .before .args .t1) ≡ 32 = search needs in
+    find-here _ _ noBucket (omega arith) (l .loop .inv .1) (c .if1 .taken)
 
 add-i : tie.Need-add-i Inv-loop μ-loop
 add-i c = search needs
@@ -37,10 +40,15 @@ loop-less : tie.Need-loop-less Inv-loop μ-loop
 loop-less c = search needs
 
 loop-again : tie.Need-loop-again Inv-loop μ-loop
-loop-again c = let n : length (c .before .before .before .before .before .args .t1) ≡ 32 = search needs in (omega arith, find-next _ _ noBucket (omega arith) (c .before .before .before .before .loop .inv .1) (c .if1 .left))
+loop-again c =
+    let l = c .before .before .before .before in
+    let n : length (l .before .args .t1) ≡ 32 = search needs in
+    (omega arith, find-next _ _ noBucket (omega arith) (l .loop .inv .1) (c .if1 .left))
 
 returns-2 : tie.Need-returns-2 Inv-loop μ-loop
-returns-2 c = let n : length (c .before .before .args .t1) ≡ 32 = search needs in find-done _ _ (omega arith) (omega arith) (c .before .loop .inv .1)
+returns-2 c =
+    let l = c .before in
+    let n : length (l .before .args .t1) ≡ 32 = search needs in find-done _ _ (omega arith) (omega arith) (l .loop .inv .1)
 
 pub find-free-spec : {M : Type 1} → statement M
 find-free-spec =

@@ -21,7 +21,9 @@ array-copy-out-last : tie.Need-array-copy-out-last Inv-loop μ-loop
 array-copy-out-last c = search needs
 
 loop-holds : tie.Need-loop-holds Inv-loop μ-loop
-loop-holds c = let n : length (c .before .args .t1) ≡ 32 = search needs in (omega arith, omega arith, least-last _ (c .before .args .t1) 31 noBucket (sym n))
+loop-holds c =
+    let n : length (c .before .args .t1) ≡ 32 = search needs in
+    (omega arith, omega arith, least-last _ (c .before .args .t1) 31 noBucket (sym n))
 
 sub-i : tie.Need-sub-i Inv-loop μ-loop
 sub-i c = search needs
@@ -36,15 +38,19 @@ loop-less : tie.Need-loop-less Inv-loop μ-loop
 loop-less c = search needs
 
 loop-again : tie.Need-loop-again Inv-loop μ-loop
-loop-again c = let n : length (c .before .before .before .before .before .before .args .t1) ≡ 32 = search needs in
-    (omega arith, omega arith, least-front _ _ (c .before .before .before .before .loop .i) noBucket (c .before .before .before .loop-test .taken) (omega arith) (c .before .before .before .before .loop .inv .2) (omega arith))
+loop-again c =
+    let l = c .before .before .before .before in
+    let n : length (l .before .before .args .t1) ≡ 32 = search needs in
+    (omega arith, omega arith, least-front _ _ (l .loop .i) noBucket (omega arith) (omega arith) (l .loop .inv .2) (omega arith))
 
 loop-less-2 : tie.Need-loop-less-2 Inv-loop μ-loop
 loop-less-2 c = search needs
 
 loop-again-2 : tie.Need-loop-again-2 Inv-loop μ-loop
-loop-again-2 c = let n : length (c .before .before .before .before .before .before .args .t1) ≡ 32 = search needs in
-    (omega arith, omega arith, least-stays _ _ (c .before .before .before .before .loop .i) noBucket (c .before .before .before .loop-test .taken) (omega arith) (c .before .before .before .before .loop .inv .0) (c .before .before .before .before .loop .inv .2) (omega arith))
+loop-again-2 c =
+    let l = c .before .before .before .before in
+    let n : length (l .before .before .args .t1) ≡ 32 = search needs in
+    (omega arith, omega arith, least-stays _ _ (l .loop .i) noBucket (omega arith) (omega arith) (l .loop .inv .0) (l .loop .inv .2) (omega arith))
 
 returns : tie.Need-returns Inv-loop μ-loop
 returns c = least-done _ _ (c .before .loop .i) (c .before .loop .at) (c .loop-test .left) (c .before .loop .inv .2)

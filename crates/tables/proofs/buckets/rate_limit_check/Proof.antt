@@ -21,10 +21,18 @@ consume-requires : tie.Need-consume-requires
 consume-requires c κs = search needs
 
 returns : tie.Need-returns
-returns c = let n : length (c .before .before .before .before .before .before .args .t1) ≡ 32 = search needs in held-allowed _ _ _ _ (c .before .before .before .before .before .find-held .ensures) (omega arith) (c .before .before .consume .ensures) (c .if2 .taken)
+returns c =
+    let k = c .before .before in
+    let s = k .before .before .before in
+    let n : length (s .before .args .t1) ≡ 32 = search needs in
+    held-allowed _ _ _ _ (s .find-held .ensures) (omega arith) (k .consume .ensures) (c .if2 .taken)
 
 returns-2 : tie.Need-returns-2
-returns-2 c = let n : length (c .before .before .before .before .before .before .args .t1) ≡ 32 = search needs in held-limited _ _ _ _ (c .before .before .before .before .before .find-held .ensures) (omega arith) (c .before .before .consume .ensures) (c .if2 .left)
+returns-2 c =
+    let k = c .before .before in
+    let s = k .before .before .before in
+    let n : length (s .before .args .t1) ≡ 32 = search needs in
+    held-limited _ _ _ _ (s .find-held .ensures) (omega arith) (k .consume .ensures) (c .if2 .left)
 
 find-free-requires : tie.Need-find-free-requires
 find-free-requires c κs = search needs
@@ -33,18 +41,23 @@ granted-requires : tie.Need-granted-requires
 granted-requires c κs = search needs
 
 returns-3 : tie.Need-returns-3
-returns-3 c = let a = c .before .before .before .before .before .args in
-    let n : length (a .t1) ≡ 32 = search needs in
-    c .granted .ensures ∙ at-free _ _ _ _ (c .before .before .find-free .ensures) (omega arith) ∙ sym (new _ _ _ _ (c .before .before .before .before .find-held .ensures) (omega arith))
+returns-3 c =
+    let f = c .before .before in
+    let s = f .before .before in
+    let n : length (s .before .args .t1) ≡ 32 = search needs in
+    c .granted .ensures ∙ at-free _ _ _ _ (f .find-free .ensures) (omega arith) ∙ sym (new _ _ _ _ (s .find-held .ensures) (omega arith))
 
 find-oldest-requires : tie.Need-find-oldest-requires
 find-oldest-requires c κs = search needs
 
 mul-bucket-2 : tie.Need-mul-bucket-2
-mul-bucket-2 c = let n : length (c .before .before .before .before .before .args .t1) ≡ 32 = search needs in omega (arith, oldest-lt (c .before .before .before .before .before .args .t1) n (c .find-oldest .ensures))
+mul-bucket-2 c =
+    let s = c .before .before .before .before .before in
+    let n : length (s .args .t1) ≡ 32 = search needs in omega (arith, oldest-lt (s .args .t1) n (c .find-oldest .ensures))
 
 array-copy-out-bucket-2 : tie.Need-array-copy-out-bucket-2
-array-copy-out-bucket-2 c = let n : length (c .before .before .before .before .before .args .t1) ≡ 32 = search needs in oldest-lt _ n (c .find-oldest .ensures)
+array-copy-out-bucket-2 c =
+    let n : length (c .before .before .before .before .before .args .t1) ≡ 32 = search needs in oldest-lt _ n (c .find-oldest .ensures)
 
 is-expired-requires : tie.Need-is-expired-requires
 is-expired-requires c κs = search needs
@@ -53,18 +66,29 @@ granted-requires-2 : tie.Need-granted-requires-2
 granted-requires-2 c κs = search needs
 
 returns-4 : tie.Need-returns-4
-returns-4 c = let n : length (c .before .before .before .before .before .before .before .before .before .args .t1) ≡ 32 = search needs in
-    c .granted2 .ensures ∙ at-expired _ _ _ _ (c .before .before .before .before .before .before .find-free .ensures) (omega arith) (c .before .before .before .before .find-oldest .ensures) (omega arith) (sym (c .before .before .is-expired .ensures) ∙ c .before .if4 .taken)
-    ∙ sym (new _ _ _ _ (c .before .before .before .before .before .before .before .before .find-held .ensures) (omega arith))
+returns-4 c =
+    let x = c .before .before in
+    let o = x .before .before in
+    let f = o .before .before in
+    let s = f .before .before in
+    let n : length (s .before .args .t1) ≡ 32 = search needs in
+    c .granted2 .ensures
+    ∙ at-expired _ _ _ _ (f .find-free .ensures) (omega arith) (o .find-oldest .ensures) (omega arith) (sym (x .is-expired .ensures) ∙ c .before .if4 .taken)
+    ∙ sym (new _ _ _ _ (s .find-held .ensures) (omega arith))
 
 make-requires : tie.Need-make-requires
 make-requires c κs = search needs
 
 returns-5 : tie.Need-returns-5
-returns-5 c = let n : length (c .before .before .before .before .before .before .before .before .before .args .t1) ≡ 32 = search needs in
+returns-5 c =
+    let x = c .before .before in
+    let o = x .before .before in
+    let f = o .before .before in
+    let s = f .before .before in
+    let n : length (s .before .args .t1) ≡ 32 = search needs in
     rw (c .make .ensures)
-    (at-least _ _ _ _ (c .before .before .before .before .before .before .find-free .ensures) (omega arith) (c .before .before .before .before .find-oldest .ensures) (omega arith) (sym (c .before .before .is-expired .ensures) ∙ c .before .if4 .left)
-    ∙ sym (new _ _ _ _ (c .before .before .before .before .before .before .before .before .find-held .ensures) (omega arith)))
+    (at-least _ _ _ _ (f .find-free .ensures) (omega arith) (o .find-oldest .ensures) (omega arith) (sym (x .is-expired .ensures) ∙ c .before .if4 .left)
+    ∙ sym (new _ _ _ _ (s .find-held .ensures) (omega arith)))
 
 pub rate-limit-check-spec : {M : Type 1} → statement M
 rate-limit-check-spec =

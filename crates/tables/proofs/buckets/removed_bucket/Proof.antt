@@ -1,5 +1,5 @@
--- `buckets::removed_bucket` meets its contract. The invariant: `i` is at most 32, and the place in the whole table stands `i` places before the rest from `i` on.
--- The measure is what is left of 32. Assumes nothing.
+-- `buckets::removed_bucket` meets its contract. The invariant: `i` is at most 32, and what is sought in the whole table stands `i` places further than in what is left
+-- of it from `i` on. The measure is what is left of 32. Assumes nothing.
 use mathlib.Core.Path.{_≡_, sym, _∙_}
 use mathlib.Core.Bool.{_&&_}
 use Prim.Native.Nat.{_≤_, _-_, _+_}
@@ -33,7 +33,10 @@ removes-bucket-requires c κs = search needs
 
 returns : tie.Need-returns Inv-loop μ-loop
 unfolding removedBucket
-returns c = let n : length (c .before .before .before .before .before .args .t1) ≡ 32 = search needs in find-here _ _ noBucket (omega arith) (c .before .before .before .before .loop .inv .1) (sym (c .before .removes-bucket .ensures) ∙ c .if1 .taken)
+returns c =
+    let l = c .before .before .before .before in
+    let n : length (l .before .args .t1) ≡ 32 = search needs in
+    find-here _ _ noBucket (omega arith) (l .loop .inv .1) (sym (c .before .removes-bucket .ensures) ∙ c .if1 .taken)
 
 add-i : tie.Need-add-i Inv-loop μ-loop
 add-i c = search needs
@@ -43,11 +46,16 @@ loop-less c = search needs
 
 loop-again : tie.Need-loop-again Inv-loop μ-loop
 unfolding removedBucket
-loop-again c = let n : length (c .before .before .before .before .before .args .t1) ≡ 32 = search needs in (omega arith, find-next _ _ noBucket (omega arith) (c .before .before .before .before .loop .inv .1) (sym (c .before .removes-bucket .ensures) ∙ c .if1 .left))
+loop-again c =
+    let l = c .before .before .before .before in
+    let n : length (l .before .args .t1) ≡ 32 = search needs in
+    (omega arith, find-next _ _ noBucket (omega arith) (l .loop .inv .1) (sym (c .before .removes-bucket .ensures) ∙ c .if1 .left))
 
 returns-2 : tie.Need-returns-2 Inv-loop μ-loop
 unfolding removedBucket
-returns-2 c = let n : length (c .before .before .args .t1) ≡ 32 = search needs in find-done _ _ (omega arith) (omega arith) (c .before .loop .inv .1)
+returns-2 c =
+    let l = c .before in
+    let n : length (l .before .args .t1) ≡ 32 = search needs in find-done _ _ (omega arith) (omega arith) (l .loop .inv .1)
 
 pub removed-bucket-spec : {M : Type 1} → statement M
 removed-bucket-spec =

@@ -27,7 +27,10 @@ suffix-hash-requires c κs = search needs
 
 returns : tie.Need-returns
 unfolding idOf
-returns c = rw (c .before .before .before .before .fnv1a-hash .ensures, c .before .before .before .djb2-hash .ensures, c .before .before .prefix-of .ensures, c .before .least .ensures, c .suffix-hash .ensures)
+returns c =
+    let p = c .before .before in
+    let d = p .before in
+    rw (d .before .fnv1a-hash .ensures, d .djb2-hash .ensures, p .prefix-of .ensures, c .before .least .ensures, c .suffix-hash .ensures)
 
 pub id-of-spec : {M : Type 1} → statement M
 id-of-spec =

@@ -15,11 +15,18 @@ returns-2 c = rw (eq-eqb _ _ (c .before .before .before .if1 .left), ne-eqb _ _ 
 
 returns-3 : tie.Need-returns-3
 unfolding isOf
-returns-3 c = rw (eq-eqb _ _ (c .before .before .before .before .before .before .if1 .left), eq-eqb _ _ (c .before .before .before .if2 .left), ne-eqb _ _ (c .if3 .taken))
+returns-3 c =
+    let b = c .before .before .before in
+    let a = b .before .before .before in
+    rw (eq-eqb _ _ (a .if1 .left), eq-eqb _ _ (b .if2 .left), ne-eqb _ _ (c .if3 .taken))
 
 returns-4 : tie.Need-returns-4
 unfolding isOf
-returns-4 c = rw (eq-eqb _ _ (c .before .before .before .before .before .before .before .before .before .if1 .left), eq-eqb _ _ (c .before .before .before .before .before .before .if2 .left), eq-eqb _ _ (c .before .before .before .if3 .left), ne-eqb _ _ (c .if4 .taken))
+returns-4 c =
+    let d = c .before .before .before in
+    let b = d .before .before .before in
+    let a = b .before .before .before in
+    rw (eq-eqb _ _ (a .if1 .left), eq-eqb _ _ (b .if2 .left), eq-eqb _ _ (d .if3 .left), ne-eqb _ _ (c .if4 .taken))
 
 cast-least : tie.Need-cast-least
 cast-least c = search needs
@@ -35,7 +42,13 @@ same-prefix-requires c κs = search needs
 
 returns-5 : tie.Need-returns-5
 unfolding isOf
-returns-5 c = rw (eq-eqb _ _ (c .before .before .before .before .before .before .before .before .before .before .before .before .before .before .before .if1 .left), eq-eqb _ _ (c .before .before .before .before .before .before .before .before .before .before .before .before .if2 .left), eq-eqb _ _ (c .before .before .before .before .before .before .before .before .before .if3 .left), eq-eqb _ _ (c .before .before .before .before .before .before .if4 .left), ← c .before .least .ensures) (c .same-prefix .ensures)
+returns-5 c =
+    let e = c .before .before .before .before .before .before in
+    let d = e .before .before .before in
+    let b = d .before .before .before in
+    let a = b .before .before .before in
+    rw (eq-eqb _ _ (a .if1 .left), eq-eqb _ _ (b .if2 .left), eq-eqb _ _ (d .if3 .left), eq-eqb _ _ (e .if4 .left), ← c .before .least .ensures)
+    (c .same-prefix .ensures)
 
 pub is-of-spec : {M : Type 1} → statement M
 is-of-spec =

@@ -1,5 +1,6 @@
 -- `identity::is_removed` meets its contract, test by test; the first 32 bytes of 32 are all. Assumes nothing.
-use mathlib.Core.Path.{_∙_}
+use mathlib.Core.Path.{_≡_, _∙_}
+use lib.ListN.{length}
 use borrow.Author.Needs.{needs}
 use borrow.Author.Tests.{eq-eqb, ne-eqb}
 use Rattle.tables.specs.Identity.{isRemoved}
@@ -17,14 +18,26 @@ returns-2 c = rw (eq-eqb _ _ (c .before .before .before .if1 .left), ne-eqb _ _ 
 
 returns-3 : tie.Need-returns-3
 unfolding isRemoved
-returns-3 c = rw (eq-eqb _ _ (c .before .before .before .before .before .before .if1 .left), eq-eqb _ _ (c .before .before .before .if2 .left), ne-eqb _ _ (c .if3 .taken))
+returns-3 c =
+    let b = c .before .before .before in
+    let a = b .before .before .before in
+    rw (eq-eqb _ _ (a .if1 .left), eq-eqb _ _ (b .if2 .left), ne-eqb _ _ (c .if3 .taken))
 
 same-prefix-requires : tie.Need-same-prefix-requires
 same-prefix-requires c κs = search needs
 
 returns-4 : tie.Need-returns-4
 unfolding isRemoved
-returns-4 c = rw (eq-eqb _ _ (c .before .before .before .before .before .before .before .before .before .if1 .left), eq-eqb _ _ (c .before .before .before .before .before .before .if2 .left), eq-eqb _ _ (c .before .before .before .if3 .left)) (c .same-prefix .ensures ∙ same-whole _ _ (search (needs, c .before .before .before .before .before .before .before .before .before .before .before .before .good)) (search (needs, c .before .before .before .before .before .before .before .before .before .before .before .before .good)))
+returns-4 c =
+    let g = c .before .before .before .before .before .before .before .before .before .before .before .before .good in
+    let s = c .before .before .before .before .before .before .before .before .before .before .before .before .args in
+    let m : length (s .held .prefix) ≡ 32 = search (needs, g) in
+    let n : length (s .id .prefix) ≡ 32 = search (needs, g) in
+    let d = c .before .before .before in
+    let b = d .before .before .before in
+    let a = b .before .before .before in
+    rw (eq-eqb _ _ (a .if1 .left), eq-eqb _ _ (b .if2 .left), eq-eqb _ _ (d .if3 .left))
+    (c .same-prefix .ensures ∙ same-whole _ _ m n)
 
 pub is-removed-spec : {M : Type 1} → statement M
 is-removed-spec = tie.close (tie.spec returns returns-2 returns-3 same-prefix-requires returns-4)

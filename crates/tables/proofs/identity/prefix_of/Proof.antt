@@ -35,10 +35,13 @@ loop-less : tie.Need-loop-less Inv-loop μ-loop
 loop-less c = search needs
 
 loop-again : tie.Need-loop-again Inv-loop μ-loop
-loop-again c = (omega arith, rw (c .before .before .loop .inv .1) (prefix-more (c .before .before .before .before .before .args .topic .now) (c .before .before .loop .i) (omega arith) (omega arith)))
+loop-again c =
+    let l = c .before .before in
+    (omega arith, rw (l .loop .inv .1) (prefix-more (l .before .before .before .args .topic .now) (l .loop .i) (omega arith) (omega arith)))
 
 returns : tie.Need-returns Inv-loop μ-loop
-returns c = c .before .loop .inv .1 ∙ prefix-done (c .before .before .before .before .args .topic .now) (c .before .loop .i) (omega arith)
+returns c =
+    let l = c .before in l .loop .inv .1 ∙ prefix-done (l .before .before .before .args .topic .now) (l .loop .i) (omega arith)
 
 pub prefix-of-spec : {M : Type 1} → statement M
 prefix-of-spec =

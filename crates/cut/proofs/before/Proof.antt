@@ -1,0 +1,20 @@
+-- `cut::before` meets its contract: the first `b` is not found past the end. Assumes nothing.
+use mathlib.Core.Path.{sym}
+use native.Mathlib.Omega.{arith}
+use lib.Seq.{length-take-le}
+use Rattle.lines.proofs.SpanLaws.{place-within}
+use borrow.Author.Needs.{needs}
+use Rattle.cut.proofs.before.Statement.{statement}
+use Rattle.cut.proofs.before.Tie as tie
+
+find-byte-requires : tie.Need-find-byte-requires
+find-byte-requires c κs = search needs
+
+slice-aggregate-result : tie.Need-slice-aggregate-result
+slice-aggregate-result c = sym (length-take-le _ _ (omega (arith, c .before .find-byte .ensures, place-within (c .before .before .before .args .b) (c .before .before .before .args .s .now) 0)))
+
+returns : tie.Need-returns
+returns c = rw (← c .before .find-byte .ensures)
+
+pub before-spec : {M : Type 1} → statement M
+before-spec = tie.close (tie.spec find-byte-requires slice-aggregate-result returns)
