@@ -1,5 +1,6 @@
--- The identity test on identities of topics shorter than 65,536 bytes, as every inspected one is, is equality; and up to 32 bytes it tells topics apart exactly
--- (document 01, "Hashes"). Above 65,535 bytes it is neither: the length is kept modulo 65,536. Assumes nothing.
+-- The identity test on identities of topics shorter than 65,536 bytes, as every inspected one is, is equality; those that answer to one identity, whatever it is, are
+-- equal; and up to 32 bytes the test tells topics apart exactly (document 01, "Hashes"). Above 65,535 bytes it does neither: the length is kept modulo 65,536.
+-- Assumes nothing.
 use mathlib.Core.Bool.{true, _&&_}
 use mathlib.Core.List.{List}
 use mathlib.Core.Path.{_≡_, refl, sym, _∙_}
@@ -28,46 +29,54 @@ front : (t : List ℕ) (n : ℕ) → n ≡ min (length t) 32 → take n (prefixO
 unfolding prefixOf
 front t n e = take-at (take 32 t) (replicate (32 - length t) 0) n (length-take 32 t ∙ omega arith)
 
--- what the test says of two topics
-record Alike (t u : List ℕ) : Type 0 where
-  pub hash : fnv1a u ≡ fnv1a t
-  pub hash2 : djb2 u ≡ djb2 t
-  pub long : length u ≡ length t
-  pub rest : suffixHash u ≡ suffixHash t
-  pub first : take 32 u ≡ take 32 t
+-- what the test says of an identity and a topic
+record Answers (x : Id) (u : List ℕ) : Type 0 where
+  hash : fnv1a u ≡ x .hash
+  hash2 : djb2 u ≡ x .hash2
+  long : length u ≡ x .len
+  rest : suffixHash u ≡ x .«suffix_hash»
+  first : take 32 u ≡ take (min (x .len) 32) (x .prefix)
+
+told : (x : Id) (u : List ℕ) → length u < 65536 → isOf x (idOf u) ≡ true → Answers x u
+unfolding isOf idOf
+told x u lu e =
+    let k = min (x .len) (min (length u) 32) in
+    let h = eqb (fnv1a u) (x .hash) in
+    let h2 = eqb (djb2 u) (x .hash2) in
+    let l = eqb (length u % 65536) (x .len) in
+    let r = eqb (suffixHash u) (x .«suffix_hash») in
+    let a = both (h && h2 && l && r) (same (take k (prefixOf u)) (take k (x .prefix))) e in
+    let b = both (h && h2 && l) r (a .0) in
+    let c = both (h && h2) l (b .0) in
+    let d = both h h2 (c .0) in
+    let n : length u ≡ x .len = omega (arith, eqb-true (length u % 65536) (x .len) (c .1)) in
+    let m : k ≡ min (x .len) 32 = omega arith in
+    record {
+      hash = eqb-true _ _ (d .0);
+      hash2 = eqb-true _ _ (d .1);
+      long = n;
+      rest = eqb-true _ _ (b .1);
+      first = rw (← m) (sym (front u k (omega arith)) ∙ same-true _ _ (a .1));
+    }
+
+-- two topics that answer to one identity
+one : {x : Id} {t u : List ℕ} → Answers x t → Answers x u → idOf t ≡ idOf u
+unfolding idOf prefixOf
+one a b =
+    rw (a .hash ∙ sym (b .hash), a .hash2 ∙ sym (b .hash2), a .first ∙ sym (b .first), a .long ∙ sym (b .long), a .rest ∙ sym (b .rest))
 
 module _ (t u : List ℕ) (lt : length t < 65536) (lu : length u < 65536) where
-  told : isOf (idOf t) (idOf u) ≡ true → Alike t u
-  unfolding isOf idOf
-  told e =
-      let k = min (length t % 65536) (min (length u) 32) in
-      let h = eqb (fnv1a u) (fnv1a t) in
-      let h2 = eqb (djb2 u) (djb2 t) in
-      let l = eqb (length u % 65536) (length t % 65536) in
-      let r = eqb (suffixHash u) (suffixHash t) in
-      let a = both (h && h2 && l && r) (same (take k (prefixOf u)) (take k (prefixOf t))) e in
-      let b = both (h && h2 && l) r (a .0) in
-      let c = both (h && h2) l (b .0) in
-      let d = both h h2 (c .0) in
-      let n : length u ≡ length t = omega (arith, eqb-true (length u % 65536) (length t % 65536) (c .1)) in
-      record {
-        hash = eqb-true _ _ (d .0);
-        hash2 = eqb-true _ _ (d .1);
-        long = n;
-        rest = eqb-true _ _ (b .1);
-        first = sym (front u k (omega arith)) ∙ same-true _ _ (a .1) ∙ front t k (omega arith);
-      }
-
   -- an identity that the test takes is equal
   pub is-of-made : isOf (idOf t) (idOf u) ≡ true → idOf t ≡ idOf u
-  unfolding idOf prefixOf
-  is-of-made e = let a = told e in rw (← a .hash, ← a .hash2, ← a .long, ← a .rest, ← a .first)
+  is-of-made e = one (told (idOf t) t lt (is-of-refl (idOf t))) (told (idOf t) u lu e)
 
   -- up to 32 bytes the topics themselves are
   pub is-of-exact : length t ≤ 32 → isOf (idOf t) (idOf u) ≡ true → t ≡ u
   is-of-exact h e =
-      let a = told e in
-      let n = a .long in sym (take-all 32 t h) ∙ sym (a .first) ∙ take-all 32 u (omega arith)
+      let a = told (idOf t) t lt (is-of-refl (idOf t)) in
+      let b = told (idOf t) u lu e in
+      let n : length t ≡ length u = a .long ∙ sym (b .long) in
+      sym (take-all 32 t h) ∙ a .first ∙ sym (b .first) ∙ take-all 32 u (omega arith)
 
 -- the order does not matter
 pub is-of-sym : (t u : List ℕ) → length t < 65536 → length u < 65536 → isOf (idOf t) (idOf u) ≡ isOf (idOf u) (idOf t)
@@ -75,3 +84,18 @@ is-of-sym t u lt lu =
     alike _ _
     (λ e. rw (is-of-made t u lt lu e) (is-of-refl (idOf u)))
     (λ e. rw (is-of-made u t lu lt e) (is-of-refl (idOf t)))
+
+-- an identity as it is made of a topic
+pub data OfTopic : Id → Type 0 where
+  of-topic : (t : List ℕ) → length t < 65536 → OfTopic (idOf t)
+
+-- of two such, the test takes equal ones only
+pub of-true : {y z : Id} → OfTopic y → OfTopic z → isOf y z ≡ true → y ≡ z
+of-true (of-topic t lt) (of-topic u lu) e = is-of-made t u lt lu e
+
+-- who answers to whom an identity answers, answers to it, and no one else
+pub of-like : (x : Id) {y z : Id} → OfTopic y → OfTopic z → isOf x y ≡ true → isOf x z ≡ isOf y z
+of-like x (of-topic t lt) (of-topic u lu) e =
+    alike (isOf x (idOf u)) (isOf (idOf t) (idOf u))
+    (λ p. rw (← one (told x t lt e) (told x u lu p)) (is-of-refl (idOf t)))
+    (λ p. rw (← is-of-made t u lt lu p) e)

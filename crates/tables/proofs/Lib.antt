@@ -9,5 +9,6 @@ pub mod RefillLaws
 pub mod RuleLaws
 pub mod ScanLaws
 pub mod ShadowLaws
+pub mod StepLaws
 pub mod TrackerLaws
 pub mod WindowLaws
