@@ -1,0 +1,23 @@
+-- Document 01, "Order inside one inspection": a message is denied exactly when kind 1, 2, 3, 5, 6, 9 or 10 was raised. Under any matcher. Assumes nothing.
+use mathlib.Core.Bool.{Bool, not}
+use mathlib.Core.List.{List}
+use mathlib.Core.Path.{_≡_, sym, ap, _∙_}
+use Prim.Native.Nat.{ℕ}
+use Rattle.monitor.specs.Alerts.{kindsOf, denies, kindsAmong, some}
+use Rattle.monitor.specs.Plan.{planFrom, planOf, findingsIn}
+use Rattle.monitor.specs.declared.message.MqttMessage.{MqttMessage}
+use Rattle.monitor.specs.declared.state.MqttMonitor.{MqttMonitor}
+use Rattle.monitor.proofs.Four.{all-told}
+use Rattle.monitor.proofs.FoundLaws.{found-settled}
+use Rattle.monitor.proofs.KindLaws.{kinds-deny}
+
+module _ (matcher : List ℕ → List ℕ → Bool) (m : MqttMonitor) (msg : MqttMessage) (topic payload : List ℕ) where
+  -- by what was found
+  pub denied : planOf matcher m msg topic payload .allowed ≡ not (some denies (kindsOf (findingsIn matcher m msg topic payload)))
+  unfolding planOf planFrom
+  denied = found-settled matcher m msg topic payload ∙ ap not (sym (kinds-deny (findingsIn matcher m msg topic payload)))
+
+  -- by the alerts handed back
+  pub denied-told : planOf matcher m msg topic payload .allowed
+      ≡ not (some denies (kindsAmong (planOf matcher m msg topic payload .raised .count) (planOf matcher m msg topic payload .raised .alerts)))
+  denied-told = rw (all-told matcher m msg topic payload) denied

@@ -1,0 +1,139 @@
+-- An inspection keeps a state well formed, so that number 10 never comes up in a run that begins without it: each record that is stored is one that was there with its
+-- identity kept and its count of stamps at most 16, or a new one. Assumes nothing.
+use mathlib.Core.Bool.{Bool, true, false, cond, not, _&&_, _||_}
+use mathlib.Core.List.{List, [], _∷_}
+use mathlib.Core.Path.{_≡_, refl}
+use Prim.Native.Nat.{ℕ, zero, suc, _+_, _<_, min}
+use native.Mathlib.Omega.{arith}
+use borrow.Author.Tests.{ltb-true, ltb-false, le-leb}
+use lib.Dec.{eqb, leb, ltb}
+use lib.ListN.{length, take, getD, set}
+use lib.Seq.{set-out}
+use Rattle.topics.proofs.BoolLaws.{both}
+use Rattle.topics.proofs.ByteLaws.{by}
+use Rattle.topics.specs.declared.hashes.ClientHashes.{ClientHashes}
+use Rattle.tables.specs.Buckets.{bucketFine, decide, spend, noBucket, emptyBucket}
+use Rattle.tables.specs.Identity.{idOf}
+use Rattle.tables.specs.Rules.{ruleFine}
+use Rattle.tables.specs.Scan.{find}
+use Rattle.tables.specs.Trackers.{trackerFine, holdsTracker, noTracker, fed, feed}
+use Rattle.tables.specs.Windows.{windowFine, holdsClient, noWindow, recorded, connect}
+use Rattle.tables.specs.declared.buckets.RateBucket.{RateBucket}
+use Rattle.tables.specs.declared.trackers.EwmaTracker.{EwmaTracker}
+use Rattle.tables.specs.declared.windows.ClientStormEntry.{ClientStormEntry}
+use Rattle.tables.proofs.BucketLaws.{keeps}
+use Rattle.tables.proofs.StepLaws.{bucketAt, stored, Step, hit, put, step}
+use Rattle.monitor.specs.Inspect.{storedAt, applied, inspectRefusal, inspectWith}
+use Rattle.monitor.specs.Message.{typeNumber, usedTopic, usedPayload}
+use Rattle.monitor.specs.Plan.{seenOf, spentOf, fedOf, gateIn, planFrom, planOf}
+use Rattle.monitor.specs.State.{every, wellFormed}
+use Rattle.monitor.specs.declared.message.MqttMessage.{MqttMessage}
+use Rattle.monitor.specs.declared.state.MqttMonitor.{MqttMonitor}
+
+module _ {A : Type 0} (p : A → Bool) where
+  -- a record of a table that passes passes
+  every-at : (l : List A) (d : A) (i : ℕ) → every p l ≡ true → i < length l → p (getD l i d) ≡ true
+  unfolding every
+  every-at [] d i e h = absurd (omega arith)
+  every-at (x ∷ xs) d zero e h = both (p x) (every p xs) e .0
+  every-at (x ∷ xs) d (suc i) e h = every-at xs d i (both (p x) (every p xs) e .1) (omega arith)
+
+  -- a table that passes, with a record that passes stored
+  every-set : (l : List A) (i : ℕ) (y : A) → every p l ≡ true → p y ≡ true → every p (set l i y) ≡ true
+  unfolding every
+  every-set [] i y e h = refl
+  every-set (x ∷ xs) zero y e h = rw (h) (both (p x) (every p xs) e .1)
+  every-set (x ∷ xs) (suc i) y e h = let b = both (p x) (every p xs) e in rw (b .0) (every-set xs i y (b .1) h)
+
+  every-stored : (n : ℕ) (l : List A) (i : ℕ) (y : A) → every p l ≡ true → every p (set l i y) ≡ true → every p (storedAt n l i y) ≡ true
+  every-stored n l i y e h = by (ltb i n) (λ c. rw c h) (λ c. rw c e)
+
+-- the buckets after a message of a topic
+module _ (t : List ℕ) (rate now : ℕ) where
+  fine-step : {T T′ : List RateBucket} {ok : Bool} → every bucketFine T ≡ true → Step T (idOf t) rate now T′ ok → every bucketFine T′ ≡ true
+  unfolding idOf
+  fine-step {T} e (hit i l h) =
+      let k = keeps (bucketAt T i) now in
+      every-set bucketFine T i (spend (bucketAt T i) now .bucket) e (rw (k .live, k .id) (every-at bucketFine T noBucket i e l))
+  fine-step {T} e (put i ok l a s) = every-set bucketFine T i _ e (le-leb (min (length t) 32) 32 (omega arith))
+
+  buckets-fine : (T : List RateBucket) → every bucketFine T ≡ true → every bucketFine (stored T (decide T (idOf t) rate now)) ≡ true
+  buckets-fine T e =
+      by (ltb 0 (length T)) (λ h. fine-step e (step T (idOf t) rate now (ltb-true _ _ h)))
+      (λ h. rw (set-out T (decide T (idOf t) rate now .at) (decide T (idOf t) rate now .bucket) (omega (arith, ltb-false 0 (length T) h))) e)
+
+-- the tracker that a message of a topic feeds
+tracker-fine : (t : List ℕ) (T : List EwmaTracker) (size now : ℕ) → every trackerFine T ≡ true → trackerFine (feed T (idOf t) size now .tracker) ≡ true
+unfolding feed fed idOf
+tracker-fine t T size now e =
+    by (ltb (find (holdsTracker (idOf t)) T) (length T))
+    (λ h. rw h (every-at trackerFine T noTracker (find (holdsTracker (idOf t)) T) e (ltb-true _ _ h)))
+    (λ h. rw h (le-leb (min (length t) 32) 32 (omega arith)))
+
+-- a window with one stamp more
+count-fine : (live : Bool) (c : ℕ) → not live || leb c 16 ≡ true → not live || leb (cond (ltb c 16) (c + 1) c) 16 ≡ true
+count-fine false c e = refl
+count-fine true c e = by (ltb c 16) (λ h. rw h (le-leb (c + 1) 16 (omega (arith, ltb-true c 16 h)))) (λ h. rw h e)
+
+window-fine : (T : List ClientStormEntry) (h : ClientHashes) (t threshold window : ℕ) → every windowFine T ≡ true
+    → windowFine (connect T h t threshold window .entry) ≡ true
+unfolding connect recorded
+window-fine T h t threshold window e =
+    by (ltb (find (holdsClient h) T) (length T))
+    (λ l. rw l (count-fine (getD T (find (holdsClient h) T) noWindow .active) (getD T (find (holdsClient h) T) noWindow .count) (every-at windowFine T noWindow (find (holdsClient h) T) e (ltb-true _ _ l))))
+    (λ l. rw l)
+
+-- what each table is asked to store
+module _ (m : MqttMonitor) (msg : MqttMessage) (topic : List ℕ) where
+  spent-fine : (rate : ℕ) → every bucketFine (m .«rate_buckets») ≡ true
+      → every bucketFine (stored (m .«rate_buckets») (spentOf (m .«rate_buckets») rate topic (msg .«timestamp_us»))) ≡ true
+  unfolding spentOf
+  spent-fine rate e =
+      by (ltb 0 rate) (λ h. rw h (buckets-fine topic rate (msg .«timestamp_us») (m .«rate_buckets») e))
+      (λ h. rw h (every-set bucketFine (m .«rate_buckets») 32 emptyBucket e refl))
+
+  seen-fine : every windowFine (m .«client_hashes») ≡ true → windowFine (seenOf m msg topic .entry) ≡ true
+  unfolding seenOf
+  seen-fine e = by (eqb (typeNumber (msg .«packet_type»)) 1) (λ h. rw h (window-fine (m .«client_hashes») _ _ _ _ e)) (λ h. rw h)
+
+  fed-fine : (feeds : Bool) → every trackerFine (m .«ewma_trackers») ≡ true
+      → trackerFine (fedOf (m .«ewma_trackers») feeds topic (msg .«payload_len») (msg .«timestamp_us») .tracker) ≡ true
+  unfolding fedOf
+  fed-fine true e = tracker-fine topic (m .«ewma_trackers») (msg .«payload_len») (msg .«timestamp_us») e
+  fed-fine false e = refl
+
+-- five tests that hold together
+five : (a b c d e : Bool) → a && b && c && d && e ≡ true → (a ≡ true) × (b ≡ true) × (c ≡ true) × (d ≡ true) × (e ≡ true)
+five a b c d e h =
+    let p = both (a && b && c && d) e h in
+    let q = both (a && b && c) d (p .0) in
+    let r = both (a && b) c (q .0) in
+    let s = both a b (r .0) in (s .0, s .1, r .1, q .1, p .1)
+
+-- a plan applied
+applied-formed : (matcher : List ℕ → List ℕ → Bool) (m : MqttMonitor) (msg : MqttMessage) (topic payload : List ℕ) → wellFormed m ≡ true
+    → wellFormed (applied m (planOf matcher m msg topic payload)) ≡ true
+unfolding wellFormed applied planOf planFrom
+applied-formed matcher m msg topic payload f =
+    let h = five (leb (m .«rule_count») 32) (every ruleFine (take (m .«rule_count») (m .rules))) (every bucketFine (m .«rate_buckets»))
+    (every windowFine (m .«client_hashes»)) (every trackerFine (m .«ewma_trackers»)) f in
+    let g = gateIn matcher m msg topic in
+    let w = seenOf m msg topic in
+    let k = fedOf (m .«ewma_trackers») (g .feeds) topic (msg .«payload_len») (msg .«timestamp_us») in
+    rw (
+      h .0,
+      h .1,
+      every-stored bucketFine 32 (m .«rate_buckets») _ _ (h .2) (spent-fine m msg topic (g .rate) (h .2)),
+      every-stored windowFine 16 (m .«client_hashes») (w .at) (w .entry) (h .3) (every-set windowFine (m .«client_hashes») (w .at) (w .entry) (h .3) (seen-fine m msg topic (h .3))),
+    )
+    (every-stored trackerFine 16 (m .«ewma_trackers») (k .at) (k .tracker) (h .4)
+    (every-set trackerFine (m .«ewma_trackers») (k .at) (k .tracker) (h .4) (fed-fine m msg topic (g .feeds) (h .4))))
+
+-- an inspection
+pub kept-formed : (matcher : List ℕ → List ℕ → Bool) (m : MqttMonitor) (msg : MqttMessage) (topic payload : List ℕ) → wellFormed m ≡ true
+    → wellFormed (inspectWith matcher m msg topic payload .monitor) ≡ true
+unfolding inspectWith
+kept-formed matcher m msg topic payload f =
+    by (eqb (inspectRefusal m msg topic payload) 0)
+    (λ e. rw e (applied-formed matcher m msg (take (usedTopic msg) topic) (take (usedPayload msg) payload) f))
+    (λ e. rw e f)

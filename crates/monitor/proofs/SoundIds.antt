@@ -1,0 +1,64 @@
+-- Identities in tables: that of a topic shorter than 65,536 bytes is sound, and identities with equal fields are equal, so that an identity that no place answers to
+-- is not held there. Assumes nothing.
+use mathlib.Core.Bool.{true, false, _&&_, false≢true}
+use mathlib.Core.List.{List}
+use mathlib.Core.Path.{_≡_, sym, _∙_}
+use Prim.Native.Nat.{ℕ, _-_, _<_, min}
+use native.Mathlib.Omega.{arith}
+use borrow.Author.Tests.{eqb-true}
+use lib.Dec.{eqb}
+use lib.ListN.{length, take, replicate, length-append, length-take, length-replicate}
+use lib.Seq.{drop-at}
+use Rattle.topics.specs.Levels.{same}
+use Rattle.topics.proofs.BoolLaws.{both, fails}
+use Rattle.topics.proofs.SameLaws.{same-true}
+use Rattle.tables.specs.Identity.{prefixOf, idOf, isOf}
+use Rattle.tables.specs.declared.identity.Id.{Id}
+use Rattle.tables.proofs.IdentityLaws.{is-of-refl}
+use Rattle.monitor.specs.Sound.{sameId, SoundId}
+
+-- the identity of a topic
+pub sound-id : (t : List ℕ) → length t < 65536 → SoundId (idOf t)
+unfolding idOf prefixOf
+sound-id t h =
+    let e : 32 - length t ≡ 32 - min (length t) 32 = omega arith in
+    record {
+      size = omega (arith, length-append (take 32 t) (replicate (32 - length t) 0), length-take 32 t, length-replicate {A = ℕ} (32 - length t) 0);
+      kept = omega arith;
+      rest = drop-at (take 32 t) (replicate (32 - length t) 0) (min (length t) 32) (omega (arith, length-take 32 t)) ∙ (rw e);
+    }
+
+-- an identity by its fields
+abbrev fields : ℕ → ℕ → List ℕ → ℕ → ℕ → ℕ → Id
+fields h h2 p k n s = record { hash = h; hash2 = h2; prefix = p; «prefix_len» = k; len = n; «suffix_hash» = s }
+
+-- equal fields
+pub same-id : (a b : Id) → sameId a b ≡ true → a ≡ b
+unfolding sameId
+same-id a b e =
+    let h = eqb (a .hash) (b .hash) in
+    let h2 = eqb (a .hash2) (b .hash2) in
+    let n = eqb (a .len) (b .len) in
+    let s = eqb (a .«suffix_hash») (b .«suffix_hash») in
+    let k = eqb (a .«prefix_len») (b .«prefix_len») in
+    let f = both (h && h2 && n && s && k) (same (a .prefix) (b .prefix)) e in
+    let g = both (h && h2 && n && s) k (f .0) in
+    let i = both (h && h2 && n) s (g .0) in
+    let j = both (h && h2) n (i .0) in
+    let l = both h h2 (j .0) in
+    let e1 : a .hash ≡ b .hash = eqb-true _ _ (l .0) in
+    let e2 : a .hash2 ≡ b .hash2 = eqb-true _ _ (l .1) in
+    let e3 : a .len ≡ b .len = eqb-true _ _ (j .1) in
+    let e4 : a .«suffix_hash» ≡ b .«suffix_hash» = eqb-true _ _ (i .1) in
+    let e5 : a .«prefix_len» ≡ b .«prefix_len» = eqb-true _ _ (g .1) in
+    let e6 : a .prefix ≡ b .prefix = same-true _ _ (f .1) in
+    let all : fields (a .hash) (a .hash2) (a .prefix) (a .«prefix_len») (a .len) (a .«suffix_hash») ≡ fields (b .hash) (b .hash2) (b .prefix) (b .«prefix_len») (b .len) (b .«suffix_hash») = rw (e1, e2, e3, e4, e5, e6) in
+    all
+
+-- an identity that does not answer to another has not its fields, in either order
+module _ (x held : Id) (away : isOf x held ≡ false) where
+  pub new-first : sameId x held ≡ false
+  new-first = fails (sameId x held) (λ e. false≢true (sym away ∙ (rw (← same-id x held e) (is-of-refl x))))
+
+  pub new-last : sameId held x ≡ false
+  new-last = fails (sameId held x) (λ e. false≢true (sym away ∙ (rw (same-id held x e) (is-of-refl x))))

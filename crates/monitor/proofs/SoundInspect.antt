@@ -1,0 +1,92 @@
+-- An inspection hands out a sound state where it was given one, under any matcher: what each table is asked to store keeps it sound, and no id that is counted on is
+-- 0. The topic used has at most 128 bytes. Assumes nothing.
+use mathlib.Core.Bool.{Bool, true, false}
+use mathlib.Core.List.{List}
+use mathlib.Core.Path.{_≡_}
+use Prim.Native.Nat.{ℕ, _+_, _%_, _^_, _<_}
+use native.Mathlib.Omega.{arith}
+use borrow.Author.Tests.{eqb-false}
+use lib.Dec.{eqb, ltb}
+use lib.ListN.{length, take, length-take}
+use Rattle.topics.specs.Hashes.{clientHashes}
+use Rattle.topics.specs.Payload.{payloadHash}
+use Rattle.topics.proofs.ByteLaws.{by}
+use Rattle.topics.proofs.FoldLaws.{fold-keeps}
+use Rattle.monitor.specs.Alerts.{idAfter, noneRaised, raise, raiseAll, kindsOf}
+use Rattle.monitor.specs.Inspect.{storedAt, applied, inspectRefusal, inspectWith}
+use Rattle.monitor.specs.Message.{typeNumber, usedTopic, usedPayload}
+use Rattle.monitor.specs.Plan.{seenOf, spentOf, fedOf, gateIn, planFrom, planOf}
+use Rattle.monitor.specs.Sound.{SoundBuckets, SoundWindows, SoundTrackers, Sound}
+use Rattle.monitor.specs.declared.alerts.Raised.{Raised}
+use Rattle.monitor.specs.declared.message.MqttMessage.{MqttMessage}
+use Rattle.monitor.specs.declared.state.MqttMonitor.{MqttMonitor}
+use Rattle.monitor.proofs.KeptFormed.{applied-formed}
+use Rattle.monitor.proofs.SoundBuckets.{buckets-after}
+use Rattle.monitor.proofs.SoundTrackers.{trackers-after}
+use Rattle.monitor.proofs.SoundWindows.{windows-after}
+use Rattle.monitor.proofs.StoreLaws.{stored-or-not}
+
+-- the next id is never 0
+id-after : (id : ℕ) → idAfter id ≡ 0 → ⊥
+id-after id = by (eqb ((id + 1) % 2 ^ 64) 0) (λ e. rw e (λ z. omega arith)) (λ e. rw e (λ z. eqb-false ((id + 1) % 2 ^ 64) 0 e z))
+
+raise-id : (hash : List ℕ) (t : ℕ) (a : Raised) (k : ℕ) → (a .«next_id» ≡ 0 → ⊥) → raise hash t a k .«next_id» ≡ 0 → ⊥
+unfolding raise
+raise-id hash t a k n = by (ltb (a .count) 4) (λ e. rw e (id-after (a .«next_id»))) (λ e. rw e n)
+
+all-ids : (hash : List ℕ) (t id total : ℕ) (kinds : List ℕ) → (id ≡ 0 → ⊥) → raiseAll hash t id total kinds .«next_id» ≡ 0 → ⊥
+unfolding raiseAll
+all-ids hash t id total kinds n = fold-keeps (raise hash t) (λ a. a .«next_id» ≡ 0 → ⊥) (raise-id hash t) {h = noneRaised id total} kinds n
+
+module _ {m : MqttMonitor} (s : Sound m) (msg : MqttMessage) (topic : List ℕ) (short : length topic < 65536) where
+  -- the tables with what they are asked to store
+  seen-sound : SoundWindows (storedAt 16 (m .«client_hashes») (seenOf m msg topic .at) (seenOf m msg topic .entry))
+  unfolding seenOf
+  seen-sound =
+      by (eqb (typeNumber (msg .«packet_type»)) 1)
+      (λ e. rw e (stored-or-not SoundWindows 16 (m .«client_hashes») _ _ (s .windows-sound) (windows-after (clientHashes topic) _ _ _ (s .windows-sound))))
+      (λ e. rw e (s .windows-sound))
+
+  module _ (rate t : ℕ) where
+    spent-sound : SoundBuckets (storedAt 32 (m .«rate_buckets») (spentOf (m .«rate_buckets») rate topic t .at) (spentOf (m .«rate_buckets») rate topic t .bucket))
+    unfolding spentOf
+    spent-sound =
+        by (ltb 0 rate)
+        (λ e. rw e (stored-or-not SoundBuckets 32 (m .«rate_buckets») _ _ (s .buckets-sound) (buckets-after topic short rate t (s .buckets-sound))))
+        (λ e. rw e (s .buckets-sound))
+
+  module _ (size t : ℕ) where
+    fed-sound : (feeds : Bool)
+        → SoundTrackers (storedAt 16 (m .«ewma_trackers») (fedOf (m .«ewma_trackers») feeds topic size t .at) (fedOf (m .«ewma_trackers») feeds topic size t .tracker))
+    unfolding fedOf
+    fed-sound true = stored-or-not SoundTrackers 16 (m .«ewma_trackers») _ _ (s .trackers-sound) (trackers-after topic short size t (s .trackers-sound))
+    fed-sound false = s .trackers-sound
+
+  -- a plan applied
+  applied-sound : (matcher : List ℕ → List ℕ → Bool) (payload : List ℕ) → Sound (applied m (planOf matcher m msg topic payload))
+  unfolding applied planOf planFrom
+  applied-sound matcher payload =
+      let g = gateIn matcher m msg topic in
+      record {
+        formed = applied-formed matcher m msg topic payload (s .formed);
+        rules-sound = s .rules-sound;
+        buckets-sound = spent-sound (g .rate) (msg .«timestamp_us»);
+        windows-sound = seen-sound;
+        trackers-sound = fed-sound (msg .«payload_len») (msg .«timestamp_us») (g .feeds);
+        threshold-low = s .threshold-low;
+        threshold-high = s .threshold-high;
+        window-low = s .window-low;
+        window-high = s .window-high;
+        next-id = all-ids (payloadHash payload) _ _ _ _ (s .next-id);
+      }
+
+-- an inspection
+pub sound-inspect : (matcher : List ℕ → List ℕ → Bool) {m : MqttMonitor} → Sound m → (msg : MqttMessage) (topic payload : List ℕ)
+    → Sound (inspectWith matcher m msg topic payload .monitor)
+unfolding inspectWith
+sound-inspect matcher {m} s msg topic payload =
+    by (eqb (inspectRefusal m msg topic payload) 0)
+    (λ e.
+    let short : length (take (usedTopic msg) topic) < 65536 = omega (arith, length-take (usedTopic msg) topic) in
+    rw e (applied-sound s msg (take (usedTopic msg) topic) short matcher (take (usedPayload msg) payload)))
+    (λ e. rw e s)

@@ -1,0 +1,137 @@
+-- `inspection::inspect` meets its contract: the refusals in the definition's order, then three stores, each on either side of its test (ApplyLaws). Assumes nothing.
+use mathlib.Core.Logic.{⊎-elim}
+use mathlib.Core.Path.{_≡_, sym, _∙_}
+use lib.Seq.{length-take-le}
+use Rattle.topics.specs.Matching.{portMatches}
+use Rattle.monitor.specs.Inspect.{storedAt}
+use Rattle.monitor.proofs.ApplyLaws.{stored-yes, stored-no, withClients, withBuckets, withTrackers, stored-all, not-formed, short-topic, short-payload, inspected}
+use borrow.Author.Needs.{needs}
+use Rattle.monitor.proofs.inspection.inspect.Statement.{statement}
+use Rattle.monitor.proofs.inspection.inspect.Tie as tie
+
+well-formed-requires : tie.Need-well-formed-requires
+well-formed-requires c κs = search needs
+
+refused-requires : tie.Need-refused-requires
+refused-requires c κs = search needs
+
+returns : tie.Need-returns
+returns c = not-formed portMatches _ _ _ _ (c .before .before .well-formed .ensures) (c .before .if1 .taken) (c .refused .ensures)
+
+cast-used : tie.Need-cast-used
+cast-used c = search needs
+
+used-requires : tie.Need-used-requires
+used-requires c κs = search needs
+
+refused-requires-2 : tie.Need-refused-requires-2
+refused-requires-2 c κs = search needs
+
+returns-2 : tie.Need-returns-2
+returns-2 c = short-topic portMatches _ _ _ _ (c .before .before .before .before .before .well-formed .ensures) (c .before .before .before .before .if1 .left) (c .before .before .used .ensures) (c .before .if2 .taken) (c .refused2 .ensures)
+
+cast-used-2 : tie.Need-cast-used-2
+cast-used-2 c = search needs
+
+used-requires-2 : tie.Need-used-requires-2
+used-requires-2 c κs = search needs
+
+refused-requires-3 : tie.Need-refused-requires-3
+refused-requires-3 c κs = search needs
+
+returns-3 : tie.Need-returns-3
+returns-3 c = short-payload portMatches _ _ _ _ (c .before .before .before .before .before .before .before .before .well-formed .ensures) (c .before .before .before .before .before .before .before .if1 .left) (c .before .before .before .before .before .used .ensures) (c .before .before .before .before .if2 .left) (c .before .before .used2 .ensures) (c .before .if3 .taken) (c .refused3 .ensures)
+
+slice-aggregate-plan-for : tie.Need-slice-aggregate-plan-for
+slice-aggregate-plan-for c = sym (length-take-le _ _ (c .before .before .before .before .if2 .left))
+
+slice-aggregate-plan-for-2 : tie.Need-slice-aggregate-plan-for-2
+slice-aggregate-plan-for-2 c = sym (length-take-le _ _ (c .before .before .if3 .left))
+
+plan-for-requires : tie.Need-plan-for-requires
+plan-for-requires c κs = search needs
+
+mul-entry : tie.Need-mul-entry
+mul-entry c = search needs
+
+element-set-from-entry : tie.Need-element-set-from-entry
+element-set-from-entry c = search needs
+
+mul-bucket : tie.Need-mul-bucket
+mul-bucket c = search needs
+
+element-set-from-bucket : tie.Need-element-set-from-bucket
+element-set-from-bucket c = search needs
+
+mul-tracker : tie.Need-mul-tracker
+mul-tracker c = search needs
+
+element-set-from-tracker : tie.Need-element-set-from-tracker
+element-set-from-tracker c = search needs
+
+count-on-requires : tie.Need-count-on-requires
+count-on-requires c κs = search needs
+
+-- the state after each store, where the ways from its test meet
+client-is : (c : tie.Joined4)
+    → c .if4 .next
+    ≡ withClients (c .before .before .before .before .before .before .before .before .before .before .before .before .before .before .before .args .m) (storedAt 16 (c .before .before .before .before .before .before .before .before .before .before .before .before .before .before .before .args .m .«client_hashes») (c .before .before .plan-for .result .seen .at) (c .before .before .plan-for .result .seen .entry))
+client-is c =
+    let m = c .before .before .before .before .before .before .before .before .before .before .before .before .before .before .before .args .m in
+    let d = c .before .before .plan-for .result .seen in
+    ⊎-elim
+    (λ w. stored-yes (withClients m) 16 (m .«client_hashes») (d .at) (d .entry) (w .0 .taken) (w .2))
+    (λ w. stored-no (withClients m) 16 (m .«client_hashes») (d .at) (d .entry) (w .0 .left) (w .1))
+    (c .if4 .came)
+
+bucket-is : (c : tie.Joined5)
+    → c .if5 .next
+    ≡ withBuckets (c .before .before .if4 .next) (storedAt 32 (c .before .before .if4 .next .«rate_buckets») (c .before .before .before .before .plan-for .result .spent .at) (c .before .before .before .before .plan-for .result .spent .bucket))
+bucket-is c =
+    let m = c .before .before .if4 .next in
+    let d = c .before .before .before .before .plan-for .result .spent in
+    ⊎-elim
+    (λ w. stored-yes (withBuckets m) 32 (m .«rate_buckets») (d .at) (d .bucket) (w .0 .taken) (w .2))
+    (λ w. stored-no (withBuckets m) 32 (m .«rate_buckets») (d .at) (d .bucket) (w .0 .left) (w .1))
+    (c .if5 .came)
+
+tracker-is : (c : tie.Joined6)
+    → c .if6 .next
+    ≡ withTrackers (c .before .before .if5 .next) (storedAt 16 (c .before .before .if5 .next .«ewma_trackers») (c .before .before .before .before .before .before .plan-for .result .fed .at) (c .before .before .before .before .before .before .plan-for .result .fed .tracker))
+tracker-is c =
+    let m = c .before .before .if5 .next in
+    let d = c .before .before .before .before .before .before .plan-for .result .fed in
+    ⊎-elim
+    (λ w. stored-yes (withTrackers m) 16 (m .«ewma_trackers») (d .at) (d .tracker) (w .0 .taken) (w .2))
+    (λ w. stored-no (withTrackers m) 16 (m .«ewma_trackers») (d .at) (d .tracker) (w .0 .left) (w .1))
+    (c .if6 .came)
+
+returns-4 : tie.Need-returns-4
+returns-4 c = inspected portMatches _ _ _ _ (c .before .before .before .before .before .before .before .before .before .before .before .before .before .before .before .before .before .before .before .well-formed .ensures) (c .before .before .before .before .before .before .before .before .before .before .before .before .before .before .before .before .before .before .if1 .left) (c .before .before .before .before .before .before .before .before .before .before .before .before .before .before .before .before .used .ensures) (c .before .before .before .before .before .before .before .before .before .before .before .before .before .before .before .if2 .left) (c .before .before .before .before .before .before .before .before .before .before .before .before .before .used2 .ensures) (c .before .before .before .before .before .before .before .before .before .before .before .before .if3 .left) (c .before .before .before .before .before .before .before .before .before .plan-for .ensures) (stored-all _ _ (client-is (c .before .before .before .before .before .before .before)) (bucket-is (c .before .before .before .before .before)) (tracker-is (c .before .before .before)) (c .before .count-on .ensures))
+
+pub inspect-spec : {M : Type 1} → statement M
+inspect-spec =
+    tie.close
+    (tie.spec
+    well-formed-requires
+    refused-requires
+    returns
+    cast-used
+    used-requires
+    refused-requires-2
+    returns-2
+    cast-used-2
+    used-requires-2
+    refused-requires-3
+    returns-3
+    slice-aggregate-plan-for
+    slice-aggregate-plan-for-2
+    plan-for-requires
+    mul-entry
+    element-set-from-entry
+    mul-bucket
+    element-set-from-bucket
+    mul-tracker
+    element-set-from-tracker
+    count-on-requires
+    returns-4)

@@ -1,0 +1,13 @@
+-- `plan::wants_hash` meets its contract. Assumes nothing.
+use borrow.Author.Tests.{eq-eqb, ne-eqb}
+use Rattle.monitor.proofs.plan.wants_hash.Statement.{statement}
+use Rattle.monitor.proofs.plan.wants_hash.Tie as tie
+
+returns : tie.Need-returns
+returns c = rw (eq-eqb _ _ (c .if1 .taken))
+
+returns-2 : tie.Need-returns-2
+returns-2 c = rw (ne-eqb _ _ (c .if1 .left))
+
+pub wants-hash-spec : {M : Type 1} → statement M
+wants-hash-spec = tie.close (tie.spec returns returns-2)

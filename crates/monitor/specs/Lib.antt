@@ -1,0 +1,10 @@
+pub mod Alerts
+pub mod Calls
+pub mod Gate
+pub mod Inspect
+pub mod Message
+pub mod Plan
+pub mod Reached
+pub mod Runs
+pub mod Sound
+pub mod State

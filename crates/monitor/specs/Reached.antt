@@ -1,0 +1,29 @@
+-- The states that calls hand out (document 01, "Numbers handed back": "one reached from a constructor or a load by calls alone"): a constructor, then any calls, in any
+-- order and with any arguments, refused or not, under one matcher of the rules.
+-- Assumes nothing.
+use mathlib.Core.Bool.{Bool}
+use mathlib.Core.List.{List}
+use Prim.Native.Nat.{ℕ}
+use Rattle.tables.specs.declared.rules.QosPolicy.{QosPolicy}
+use Rattle.tables.specs.declared.rules.TopicAction.{TopicAction}
+use Rattle.monitor.specs.Calls.{fresh, addRule, removeRule, swapRules, clearRules, setStorm, removeBucket, removeTracker, resetState}
+use Rattle.monitor.specs.Inspect.{inspectWith}
+use Rattle.monitor.specs.declared.message.MqttMessage.{MqttMessage}
+use Rattle.monitor.specs.declared.state.MqttMonitor.{MqttMonitor}
+
+-- a state reached by calls alone
+pub data Reached (matcher : List ℕ → List ℕ → Bool) : MqttMonitor → Type 0 where
+  constructed : (default : TopicAction) → Reached matcher (fresh default)
+  inspected :
+      {m : MqttMonitor} (msg : MqttMessage) (topic payload : List ℕ) → Reached matcher m
+      → Reached matcher (inspectWith matcher m msg topic payload .monitor)
+  rule-added :
+      {m : MqttMonitor} (pattern : List ℕ) (action : TopicAction) (policy : QosPolicy) (rate : ℕ) → Reached matcher m
+      → Reached matcher (addRule m pattern action policy rate .monitor)
+  rule-removed : {m : MqttMonitor} (at : ℕ) → Reached matcher m → Reached matcher (removeRule m at .monitor)
+  rules-swapped : {m : MqttMonitor} (a b : ℕ) → Reached matcher m → Reached matcher (swapRules m a b .monitor)
+  rules-cleared : {m : MqttMonitor} → Reached matcher m → Reached matcher (clearRules m .monitor)
+  storm-set : {m : MqttMonitor} (threshold window : ℕ) → Reached matcher m → Reached matcher (setStorm m threshold window .monitor)
+  bucket-removed : {m : MqttMonitor} (topic : List ℕ) → Reached matcher m → Reached matcher (removeBucket m topic .monitor)
+  tracker-removed : {m : MqttMonitor} (topic : List ℕ) → Reached matcher m → Reached matcher (removeTracker m topic .monitor)
+  reset : {m : MqttMonitor} → Reached matcher m → Reached matcher (resetState m .monitor)

@@ -1,0 +1,9 @@
+pub mod Budget
+pub mod Corners
+pub mod Cuts
+pub mod Holders
+pub mod Lower
+pub mod Seats
+pub mod Tight
+pub mod Turns
+pub mod Upper

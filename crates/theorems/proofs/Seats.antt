@@ -1,0 +1,164 @@
+-- The lower half's invariants, and that a message keeps them. While no more than 32 identities have come, each is still in the table and the places from their number on are
+-- free (`Seats`): so a newcomer finds a free place, and no one is replaced. And the buckets of one identity under one rate are of that rate and not of a time to come
+-- (`Known`). Assumes nothing.
+use mathlib.Core.Bool.{Bool, true, false}
+use mathlib.Core.List.{List, [], _∷_, _++_}
+use mathlib.Core.Logic.{_⊎_, inl, inr, ⊎-elim}
+use mathlib.Core.Path.{_≡_, refl, sym, ap, _∙_}
+use Prim.Native.Nat.{ℕ, _+_, _<_, _≤_}
+use native.Mathlib.Omega.{arith}
+use borrow.Author.Tests.{eqb-true, eqb-false, ltb-true, ltb-false}
+use lib.Dec.{eqb, ltb}
+use lib.ListN.{length, set, length-append}
+use lib.Seq.{getD-set-same, getD-set-other}
+use Rattle.topics.proofs.BoolLaws.{fails}
+use Rattle.topics.proofs.ByteLaws.{by}
+use Rattle.tables.specs.Buckets.{noBucket, holdsBucket, spend, made}
+use Rattle.tables.specs.Identity.{isOf}
+use Rattle.tables.specs.declared.identity.Id.{Id}
+use Rattle.tables.specs.declared.buckets.RateBucket.{RateBucket}
+use Rattle.tables.proofs.BucketLaws.{keeps}
+use Rattle.tables.proofs.IdentityLaws.{OfTopic, of-true, is-of-refl}
+use Rattle.tables.proofs.StepLaws.{bucketAt, timeAt, Absent, Seat, free, worn, first, Step, hit, put, each}
+use Rattle.theorems.specs.Run.{isAmong, noted}
+use Rattle.theorems.proofs.Holders.{clash, Named, same-holder, held-live, no-holder, made-holder, not-mine, mine}
+
+-- an identity is in a table
+abbrev pub Present : Id → List RateBucket → Type 0
+Present x T = Absent x T → ⊥
+
+-- the identities of a list are in the table, and the places from its length on are free
+pub record Seats (T : List RateBucket) (l : List Id) : Type 0 where
+  pub there : (z : Id) → OfTopic z → isAmong z l ≡ true → Present z T
+  pub vacant : (j : ℕ) → length l ≤ j → bucketAt T j .active ≡ false
+
+-- whoever was in the table is in it still
+pub record Stays (T T′ : List RateBucket) : Type 0 where
+  pub stays : (z : Id) → Absent z T′ → Absent z T
+
+-- who is among a list with one more
+among-more : (z y : Id) (l : List Id) → isAmong z (l ++ (y ∷ [])) ≡ true → (isAmong z l ≡ true) ⊎ (isOf z y ≡ true)
+unfolding isAmong
+among-more z y [] h = by (isOf z y) (λ e. inr e) (λ e. clash h (rw e))
+among-more z y (w ∷ l) h = by (isOf z w) (λ e. inl (rw e)) (λ e. ⊎-elim (λ r. inl (rw e r)) inr (among-more z y l (rw e at h)))
+
+-- one identity more is noted only if it is new
+pub noted-le : (y : Id) (l : List Id) → length l ≤ length (noted y l)
+noted-le y l = by (isAmong y l) (λ e. rw e (omega arith)) (λ e. rw (e, length-append l (y ∷ [])) (omega arith))
+
+-- a store that takes no one's place
+module _ (T : List RateBucket) (i : ℕ) (c : RateBucket) (l : i < length T) where
+  unset : ((z : Id) → holdsBucket z c ≡ false → holdsBucket z (bucketAt T i) ≡ false) → Stays T (set T i c)
+  unset f =
+      record {
+        stays =
+            λ z a.
+            record {
+              none =
+                  λ j. by (eqb j i)
+                  (λ e. let k : j ≡ i = eqb-true j i e in rw k (f z (ap (holdsBucket z) (sym (getD-set-same T i c noBucket l)) ∙ a .none i)))
+                  (λ e. ap (holdsBucket z) (sym (getD-set-other T i j c noBucket (eqb-false j i e))) ∙ a .none j);
+            };
+      }
+
+  -- it makes its identity present
+  stored-present : (z : Id) → holdsBucket z c ≡ true → Present z (set T i c)
+  stored-present z h a = clash h (ap (holdsBucket z) (sym (getD-set-same T i c noBucket l)) ∙ a .none i)
+
+-- who was among those noted is present, with one identity more that is
+learns : {T T′ : List RateBucket} {l : List Id} {y : Id} → OfTopic y → Stays T T′ → Present y T′ → Seats T l
+    → (z : Id) → OfTopic z → isAmong z (noted y l) ≡ true → Present z T′
+learns {T} {T′} {l} {y} o s p f z q h a =
+    by (isAmong y l)
+    (λ e. f .there z q (rw e at h) (s .stays z a))
+    (λ e. ⊎-elim (λ r. f .there z q r (s .stays z a)) (λ r. p (rw (of-true q o r) at a)) (among-more z y l (rw e at h)))
+
+-- a newcomer's seat while a place is free: it is the first free one, and the message is allowed
+pub record FreeSeat (T : List RateBucket) (l : List Id) (i : ℕ) (ok : Bool) : Type 0 where
+  pub allowed : ok ≡ true
+  pub empty : bucketAt T i .active ≡ false
+  pub low : i ≤ length l
+
+pub free-seat : {T : List RateBucket} {l : List Id} {t i : ℕ} {ok : Bool} → Seats T l → length l < length T → Seat T t i ok → FreeSeat T l i ok
+free-seat {l = l} {i = i} s h (free e before) =
+    record {
+      allowed = refl;
+      empty = e;
+      low = by (ltb (length l) i) (λ g. clash (before (length l) (ltb-true _ _ g)) (s .vacant (length l) (omega arith))) (λ g. ltb-false _ _ g);
+    }
+free-seat {l = l} s h (worn live least e) = clash (live (length l) h) (s .vacant (length l) (omega arith))
+
+-- who is absent was not noted, so that there is room for one more
+pub newcomer-room : {T : List RateBucket} {l : List Id} {y : Id} → Seats T l → OfTopic y → Absent y T → length (noted y l) ≡ length l + 1
+newcomer-room {l = l} {y = y} s o a = rw (fails (isAmong y l) (λ e. s .there y o e a), length-append l (y ∷ []))
+
+-- one message
+pub record Room (T T′ : List RateBucket) (l : List Id) : Type 0 where
+  pub seats : Seats T′ l
+  pub still : Stays T T′
+
+pub room : {T T′ : List RateBucket} {l : List Id} {y : Id} {rate t : ℕ} {ok : Bool}
+    → length T ≡ 32 → OfTopic y → Seats T l → length (noted y l) ≤ 32 → Step T y rate t T′ ok → Room T T′ (noted y l)
+room {T} {l = l} {y = y} {t = t} n o s h (hit i q w) =
+    let c : RateBucket = spend (bucketAt T i) t .bucket in
+    let k : Stays T (set T i c) = unset T i c q (λ z e. sym (same-holder z (bucketAt T i) t) ∙ e) in
+    let m = noted-le y l in
+    record {
+      seats =
+          record {
+            there = learns o k (stored-present T i c q y (same-holder y (bucketAt T i) t ∙ w)) s;
+            vacant =
+                each T i c q (λ j d. length (noted y l) ≤ j → d .active ≡ false)
+                (λ g. clash (held-live y (bucketAt T i) w) (s .vacant i (omega arith))) (λ j _ g. s .vacant j (omega arith));
+          };
+      still = k;
+    }
+room {T} {l = l} {y = y} {rate} {t} n o s h (put i ok q a seat) =
+    let c : RateBucket = made y rate (first ok rate) t in
+    let m = newcomer-room s o a in
+    let f = free-seat s (omega arith) seat in
+    let k : Stays T (set T i c) = unset T i c q (λ z _. no-holder z (bucketAt T i) (f .empty)) in
+    record {
+      seats =
+          record {
+            there = learns o k (stored-present T i c q y (made-holder y y rate (first ok rate) t ∙ is-of-refl y)) s;
+            vacant = each T i c q (λ j d. length (noted y l) ≤ j → d .active ≡ false) (λ g. absurd (omega (arith, f .low))) (λ j _ g. s .vacant j (omega arith));
+          };
+      still = k;
+    }
+
+-- every bucket of an identity is of its rate, and of a time up to its last message
+pub record Known (x : Id) (R last : ℕ) (T : List RateBucket) : Type 0 where
+  pub knows : (j : ℕ) → holdsBucket x (bucketAt T j) ≡ true → (bucketAt T j .capacity ≡ R) × (timeAt T j ≤ last)
+
+pub known-wait : {x : Id} {R s t : ℕ} {T : List RateBucket} → s ≤ t → Known x R s T → Known x R t T
+known-wait h k = record { knows = λ j e. (k .knows j e .0, omega (arith, k .knows j e .1)) }
+
+known-set : {x : Id} {R s t : ℕ} (T : List RateBucket) (i : ℕ) (c : RateBucket) → i < length T → s ≤ t → Known x R s T
+    → (holdsBucket x c ≡ true → (c .capacity ≡ R) × (c .«last_refill_us» ≤ t)) → Known x R t (set T i c)
+known-set {x} {R} {s} {t} T i c q h k f =
+    record {
+      knows =
+          each T i c q (λ j d. holdsBucket x d ≡ true → (d .capacity ≡ R) × (d .«last_refill_us» ≤ t)) f
+          (λ j _ e. (k .knows j e .0, omega (arith, k .knows j e .1)));
+    }
+
+module _ {T : List RateBucket} (n : Named T) (x : Id) {y : Id} (o : OfTopic y) {R t : ℕ} where
+  -- after a message of the identity itself
+  pub known-own : {s : ℕ} {T′ : List RateBucket} {ok : Bool} → isOf x y ≡ true → s ≤ t → Known x R s T → Step T y R t T′ ok → Known x R t T′
+  known-own e h k (hit i q w) =
+      let v = keeps (bucketAt T i) t in
+      let m = k .knows i (mine n x o e i ∙ w) in
+      known-set T i (spend (bucketAt T i) t .bucket) q h k (λ _. (v .cap ∙ m .0, v .soon (omega (arith, m .1))))
+  known-own e h k (put i ok q a seat) = known-set T i (made y R (first ok R) t) q h k (λ _. (refl, omega arith))
+
+  pub present-own : {T′ : List RateBucket} {ok : Bool} → isOf x y ≡ true → Step T y R t T′ ok → Present x T′
+  present-own e (hit i q w) = stored-present T i (spend (bucketAt T i) t .bucket) q x (same-holder x (bucketAt T i) t ∙ mine n x o e i ∙ w)
+  present-own e (put i ok q a seat) = stored-present T i (made y R (first ok R) t) q x (made-holder x y R (first ok R) t ∙ e)
+
+  -- after a message of another
+  pub known-other : {s rate : ℕ} {T′ : List RateBucket} {ok : Bool} → isOf x y ≡ false → Known x R s T → Step T y rate t T′ ok → Known x R s T′
+  known-other e k (hit i q w) =
+      known-set T i (spend (bucketAt T i) t .bucket) q (omega arith) k (λ h. clash h (same-holder x (bucketAt T i) t ∙ not-mine n x o e i w))
+  known-other {rate = rate} e k (put i ok q a seat) =
+      known-set T i (made y rate (first ok rate) t) q (omega arith) k (λ h. clash h (made-holder x y rate (first ok rate) t ∙ e))

@@ -1,0 +1,42 @@
+-- The two runs, by computation. Assumes nothing.
+use mathlib.Core.Path.{refl}
+use Prim.Native.Nat.{ℕ, _≤_}
+use native.Mathlib.Omega.{arith}
+use Rattle.topics.specs.Hashes.{fnv1a, djb2, suffixHash}
+use Rattle.topics.specs.Levels.{firstLevel, restLevels, same, has}
+use Rattle.topics.specs.Matching.{fromSlash, takesNone, takesEnd, matchBytes}
+use Rattle.topics.specs.Patterns.{wellPlaced, countOf, patternRefusal}
+use Rattle.tables.specs.Buckets.{refilled, spend, isExpired, holdsBucket, newcomer, decide}
+use Rattle.tables.specs.Identity.{prefixOf, idOf, isOf}
+use Rattle.tables.specs.Rules.{qosOk, ruleFine, equalRule, firstRule, covered, shadowedAfter}
+use Rattle.tables.specs.Scan.{find, leastOf}
+use Rattle.tables.specs.declared.rules.QosPolicy.the-variants.{Any}
+use Rattle.tables.specs.declared.rules.TopicAction.the-variants.{Allow, Block}
+use Rattle.monitor.specs.Alerts.{severityOf, hashOf, kindsOf, raise, raiseAll}
+use Rattle.monitor.specs.Calls.{fresh, addRefusal, addedTo, addRule}
+use Rattle.monitor.specs.Gate.{rulingOf, gateAfter, gateOf}
+use Rattle.monitor.specs.Inspect.{applied, inspectRefusal, inspectWith}
+use Rattle.monitor.specs.Plan.{seenOf, spentOf, fedOf, denialOf, planFrom, planOf}
+use Rattle.monitor.specs.State.{every, wellFormed}
+use Rattle.theorems.specs.Corners.{bytes}
+use Rattle.theorems.specs.Run.{Prepared, made, rule, InOrder, single, later, done, next, after, rateOf, reaches, allowedOf, isAmong, arrived}
+use Rattle.theorems.specs.Tight.{hub, publish, busy, Met, crowd, Night}
+
+hub-prepared : (rate : ℕ) → Prepared (hub rate)
+unfolding hub
+hub-prepared rate = rule (made Block) (bytes "m/+") Allow Any rate
+
+busy-in-order : InOrder busy
+unfolding busy publish
+busy-in-order =
+    let a : 0 ≤ 0 = omega arith in
+    let b : 0 ≤ 500000 = omega arith in
+    let c : 500000 ≤ 1000000 = omega arith in
+    later a (later b (later c (single (publish (bytes "m/a") 1000000))))
+
+pub tight : Met × Night
+unfolding bytes matchBytes fromSlash takesNone takesEnd firstLevel restLevels same has wellPlaced countOf patternRefusal fnv1a djb2 suffixHash prefixOf idOf isOf find leastOf refilled spend isExpired holdsBucket newcomer decide qosOk ruleFine equalRule firstRule covered shadowedAfter severityOf hashOf kindsOf raise raiseAll fresh addRefusal addedTo addRule rulingOf gateAfter gateOf applied inspectRefusal inspectWith seenOf spentOf fedOf denialOf planFrom planOf every wellFormed after rateOf reaches allowedOf isAmong arrived hub publish busy crowd
+tight = (
+  record { prepared = hub-prepared 2; in-order = busy-in-order; one-rate = next (λ _. refl) (next (λ _. refl) (next (λ _. refl) (next (λ _. refl) done))); exactly = refl },
+  record { identities = refl; denied = (refl, refl, refl); allowed = (refl, refl) },
+)

@@ -1,0 +1,132 @@
+-- A run seen from the buckets: each call leaves them as they are, or is one step of the limiter. Rules, and so the rate of each call, stay what they were at the run's
+-- start. Assumes nothing.
+use mathlib.Core.Bool.{Bool, true, false, false≢true}
+use mathlib.Core.List.{List, [], _∷_}
+use mathlib.Core.Path.{_≡_, refl, sym, _∙_}
+use Prim.Native.Nat.{ℕ, _<_}
+use native.Mathlib.Omega.{arith}
+use borrow.Author.Tests.{ltb-true, ltb-false}
+use lib.Dec.{eqb, ltb}
+use lib.ListN.{length, replicate, length-set, length-take, getD-replicate, List·getD-eq-default}
+use Rattle.topics.proofs.ByteLaws.{by}
+use Rattle.tables.specs.Buckets.{noBucket, emptyBucket, holdsBucket}
+use Rattle.tables.specs.Identity.{idOf}
+use Rattle.tables.specs.declared.identity.Id.{Id}
+use Rattle.tables.specs.declared.buckets.RateBucket.{RateBucket}
+use Rattle.tables.proofs.IdentityLaws.{OfTopic, of-topic}
+use Rattle.tables.proofs.StepLaws.{bucketAt, Absent, Step, hit, put, step}
+use Rattle.monitor.specs.Calls.{fresh, tested, setStorm, addRule, addRefusal, addedTo, isHeld}
+use Rattle.monitor.specs.Inspect.{inspectRefusal}
+use Rattle.monitor.specs.Plan.{gateIn}
+use Rattle.monitor.specs.State.{wellFormed}
+use Rattle.monitor.specs.declared.state.MqttMonitor.{MqttMonitor}
+use Rattle.monitor.proofs.KeptFormed.{kept-formed}
+use Rattle.monitor.proofs.Link.{SameRules, refused, rules-stay, not-asked, asked, allowed}
+use Rattle.theorems.specs.Run.{Matcher, Prepared, made, storm, rule, Call, time, answer, isAllowed, after, used, rateOf, reaches}
+use Rattle.theorems.proofs.Holders.{Named, names}
+
+-- a used topic's identity
+pub of-used : (c : Call) → OfTopic (idOf (used c))
+of-used c = of-topic (used c) (rw length-take (omega arith))
+
+-- a state of a run beside the one at its start: the same rules, both well formed, 32 buckets whose identities are those of topics
+pub record Like (m₀ m : MqttMonitor) : Type 0 where
+  pub same : SameRules m₀ m
+  pub formed₀ : wellFormed m₀ ≡ true
+  pub formed : wellFormed m ≡ true
+  pub size : length (m .«rate_buckets») ≡ 32
+  pub named : Named (m .«rate_buckets»)
+
+-- one call: it does not reach the limiter and the buckets stay, or it is a step
+pub data Turn (T : List RateBucket) (rate : ℕ) (c : Call) : List RateBucket → Bool → Type 0 where
+  idle : {ok : Bool} → rate ≡ 0 → Turn T rate c T ok
+  stepped : {T′ : List RateBucket} {ok : Bool} → 0 < rate → Step T (idOf (used c)) rate (time c) T′ ok → Turn T rate c T′ ok
+
+module _ (matcher : Matcher) where
+  -- rates stay
+  pub rate-like : {m₀ m : MqttMonitor} → Like m₀ m → (c : Call) → rateOf matcher m c ≡ rateOf matcher m₀ c
+  unfolding rateOf inspectRefusal
+  rate-like k c = rw (k .formed, k .formed₀, k .same .rules-same, k .same .count-same, k .same .default-same)
+
+  -- who reaches the limiter does so in a well-formed state
+  pub formed-there : (m : MqttMonitor) (x : Id) (c : Call) → reaches matcher m x c ≡ true → wellFormed m ≡ true
+  unfolding reaches rateOf inspectRefusal
+  formed-there m x c h = by (wellFormed m) (λ e. e) (λ e. absurd (false≢true (rw e at h)))
+
+  turn-here : (m : MqttMonitor) (c : Call) → length (m .«rate_buckets») ≡ 32
+      → Turn (m .«rate_buckets») (rateOf matcher m c) c (answer matcher m c .monitor .«rate_buckets») (isAllowed matcher m c)
+  unfolding rateOf
+  turn-here m c l =
+      by (eqb (inspectRefusal m (c .msg) (c .topic) (c .payload)) 0)
+      (λ e.
+      by (ltb 0 (gateIn matcher m (c .msg) (used c) .rate))
+      (λ h.
+      rw (e, asked matcher m (c .msg) (c .topic) (c .payload) e h l, allowed matcher m (c .msg) (c .topic) (c .payload) e h)
+      (stepped (ltb-true _ _ h) (step (m .«rate_buckets») (idOf (used c)) (gateIn matcher m (c .msg) (used c) .rate) (time c) (omega arith))))
+      (λ h. rw (e, not-asked matcher m (c .msg) (c .topic) (c .payload) e h) (idle (omega (arith, ltb-false 0 (gateIn matcher m (c .msg) (used c) .rate) h)))))
+      (λ e. rw (e, refused matcher m (c .msg) (c .topic) (c .payload) e) (idle refl))
+
+  pub turn : {m₀ m : MqttMonitor} → Like m₀ m → (c : Call)
+      → Turn (m .«rate_buckets») (rateOf matcher m₀ c) c (answer matcher m c .monitor .«rate_buckets») (isAllowed matcher m c)
+  turn {m₀} {m} k c = rw (rate-like k c) at (turn-here m c (k .size))
+
+-- a call keeps the table's size and names
+turn-size : {T T′ : List RateBucket} {rate : ℕ} {c : Call} {ok : Bool} → Turn T rate c T′ ok → length T′ ≡ length T
+turn-size (idle e) = refl
+turn-size (stepped p (hit i l h)) = rw length-set
+turn-size (stepped p (put i ok l a s)) = rw length-set
+
+turn-named : {T T′ : List RateBucket} {rate : ℕ} {c : Call} {ok : Bool} → Named T → Turn T rate c T′ ok → Named T′
+turn-named n (idle e) = n
+turn-named {c = c} n (stepped p s) = names n (of-used c) s
+
+-- the run goes on
+pub on : (matcher : Matcher) {m₀ m : MqttMonitor} → Like m₀ m → (c : Call) → Like m₀ (answer matcher m c .monitor)
+on matcher {m₀} {m} k c =
+    let r = rules-stay matcher m (c .msg) (c .topic) (c .payload) in
+    record {
+      same =
+          record {
+            rules-same = r .rules-same ∙ k .same .rules-same;
+            count-same = r .count-same ∙ k .same .count-same;
+            default-same = r .default-same ∙ k .same .default-same;
+          };
+      formed₀ = k .formed₀;
+      formed = kept-formed matcher m (c .msg) (c .topic) (c .payload) (k .formed);
+      size = turn-size (turn matcher k c) ∙ k .size;
+      named = turn-named (k .named) (turn matcher k c);
+    }
+
+pub on-run : (matcher : Matcher) {m₀ m : MqttMonitor} → Like m₀ m → (cs : List Call) → Like m₀ (after matcher m cs)
+unfolding after
+on-run matcher k [] = k
+on-run matcher k (c ∷ cs) = on-run matcher (on matcher k c) cs
+
+-- a monitor that only rules and settings were loaded into has no live bucket
+pub all-free : {m : MqttMonitor} → Prepared m → m .«rate_buckets» ≡ replicate 32 emptyBucket
+unfolding fresh setStorm addRule addedTo
+all-free (made default) = refl
+all-free (storm {m} p threshold window) = by (eqb (tested m 0) 0) (λ e. rw e (all-free p)) (λ e. rw e (all-free p))
+all-free (rule {m} p pattern action policy rate) =
+    by (eqb (addRefusal m pattern) 0) (λ e. by (isHeld m pattern) (λ h. rw (e, h) (all-free p)) (λ h. rw (e, h) (all-free p))) (λ e. rw e (all-free p))
+
+pub free-place : (j : ℕ) → bucketAt (replicate 32 emptyBucket) j .active ≡ false
+free-place j =
+    by (ltb j 32) (λ h. rw (getD-replicate 32 j emptyBucket noBucket (ltb-true j 32 h)))
+    (λ h. rw (List·getD-eq-default (replicate 32 emptyBucket) noBucket {n = j} (ltb-false j 32 h)))
+
+-- so no one is in it
+pub no-one : {m : MqttMonitor} → Prepared m → (x : Id) → Absent x (m .«rate_buckets»)
+unfolding holdsBucket
+no-one p x = rw (all-free p) (record { none = λ j. rw (free-place j) })
+
+-- and a run begins
+pub begin : {m : MqttMonitor} → Prepared m → wellFormed m ≡ true → Like m m
+begin p f =
+    record {
+      same = record { rules-same = refl; count-same = refl; default-same = refl };
+      formed₀ = f;
+      formed = f;
+      size = rw (all-free p);
+      named = rw (all-free p) (record { name = λ j h. absurd (false≢true (sym (free-place j) ∙ h)) });
+    }

@@ -1,0 +1,4 @@
+pub mod Corners
+pub mod Limits
+pub mod Run
+pub mod Tight

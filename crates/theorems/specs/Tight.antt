@@ -1,0 +1,72 @@
+-- Demand 3's limits are met: a run in which exactly as many messages are allowed as the upper half says, and the night that started this project, in which one identity too
+-- many is denied by kind 6 for as long as the lower half's bound of 32 lets it. docs/LIMITS.md tells both. The proofs are in proofs/Tight.antt, by computation.
+-- Assumes nothing.
+use mathlib.Core.Path.{_≡_}
+use mathlib.Core.Bool.{true, false}
+use mathlib.Core.List.{List, [], _∷_, _++_}
+use Prim.Native.Nat.{ℕ, zero, suc, _+_, _-_, _*_, _/_}
+use lib.ListN.{length, getD}
+use Rattle.topics.specs.Matching.{portMatches}
+use Rattle.tables.specs.Identity.{idOf}
+use Rattle.tables.specs.declared.rules.MqttQoS.the-variants.{AtMostOnce}
+use Rattle.tables.specs.declared.rules.QosPolicy.the-variants.{Any}
+use Rattle.tables.specs.declared.rules.TopicAction.the-variants.{Allow, Block}
+use Rattle.monitor.specs.Alerts.{noAlert}
+use Rattle.monitor.specs.Calls.{fresh, addRule}
+use Rattle.monitor.specs.declared.alerts.MqttInspectResult.{MqttInspectResult}
+use Rattle.monitor.specs.declared.message.MqttPacketType.the-variants.{Publish}
+use Rattle.monitor.specs.declared.state.MqttMonitor.{MqttMonitor}
+use Rattle.theorems.specs.Corners.{bytes}
+use Rattle.theorems.specs.Run.{Prepared, Call, answer, after, InOrder, OneRate, allowedOf, arrived}
+
+-- a monitor that blocks all but the topics under `m`, each at a rate
+unfoldable pub hub : ℕ → MqttMonitor
+hub rate = addRule (fresh Block) (bytes "m/+") Allow Any rate .monitor
+
+-- a Publish of a topic without payload
+unfoldable pub publish : List ℕ → ℕ → Call
+publish topic t =
+    record {
+      msg =
+          record {
+            «packet_type» = Publish;
+            «topic_len» = length topic;
+            qos = AtMostOnce;
+            «payload_len» = 0;
+            «payload_inspectable_len» = 0;
+            «timestamp_us» = t;
+            «timestamp_ok» = true;
+          };
+      topic = topic;
+      payload = [];
+    }
+
+-- rate 2, messages of one topic at 0, 0, 500000 and 1000000
+unfoldable pub busy : List Call
+busy = publish (bytes "m/a") 0 ∷ publish (bytes "m/a") 0 ∷ publish (bytes "m/a") 500000 ∷ publish (bytes "m/a") 1000000 ∷ []
+
+-- the upper half's premises hold of this run, and all four of its messages are allowed: 2 + 2 x 1,000,000 / 1,000,000
+pub record Met : Type 0 where
+  pub prepared : Prepared (hub 2)
+  pub in-order : InOrder busy
+  pub one-rate : OneRate portMatches (hub 2) (idOf (bytes "m/a")) 2 busy
+  pub exactly : allowedOf portMatches (hub 2) (idOf (bytes "m/a")) busy ≡ 2 + 2 * (1000000 - 0) / 1000000
+
+-- a topic for each number: `m/0`, `m/1`, and so on
+abbrev pub device : ℕ → List ℕ
+device n = bytes "m/" ++ ((48 + n) ∷ [])
+
+-- as many devices, one message each, at one time
+unfoldable pub crowd : ℕ → ℕ → List Call
+crowd zero t = []
+crowd (suc n) t = publish (device n) t ∷ crowd n t
+
+-- what a 33rd device is told, at a time, after 32 have come at 0
+abbrev pub told : ℕ → MqttInspectResult
+told t = answer portMatches (after portMatches (hub 1) (crowd 32 0)) (publish (device 32) t) .result
+
+-- for 300 seconds it is denied, by the one alert of kind 6; then it is allowed
+pub record Night : Type 0 where
+  pub identities : length (arrived portMatches (hub 1) [] (crowd 32 0 ++ publish (device 32) 0 ∷ [])) ≡ 33
+  pub denied : (told 300000000 .allowed ≡ false) × (told 300000000 .«alert_count» ≡ 1) × (getD (told 300000000 .alerts) 0 noAlert .«source_id» ≡ 6)
+  pub allowed : (told 300000001 .allowed ≡ true) × (told 300000001 .«alert_count» ≡ 0)
