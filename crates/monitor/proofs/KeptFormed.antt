@@ -29,22 +29,9 @@ use Rattle.monitor.specs.Plan.{seenOf, spentOf, fedOf, gateIn, planFrom,
 use Rattle.monitor.specs.State.{every, wellFormed}
 use Rattle.monitor.specs.declared.message.MqttMessage.{MqttMessage}
 use Rattle.monitor.specs.declared.state.MqttMonitor.{MqttMonitor}
+use Rattle.monitor.proofs.FormedLaws.{every-at, every-set, formed-parts, parts-formed}
 
 module _ {A : Type 0} (p : A → Bool) where
-  -- a record of a table that passes passes
-  every-at : (l : List A) (d : A) (i : ℕ) → every p l ≡ true → i < length l → p (getD l i d) ≡ true
-  unfolding every
-  every-at [] d i e h = absurd (omega arith)
-  every-at (x ∷ xs) d zero e h = both (p x) (every p xs) e .0
-  every-at (x ∷ xs) d (suc i) e h = every-at xs d i (both (p x) (every p xs) e .1) (omega arith)
-
-  -- a table that passes, with a record that passes stored
-  every-set : (l : List A) (i : ℕ) (y : A) → every p l ≡ true → p y ≡ true → every p (set l i y) ≡ true
-  unfolding every
-  every-set [] i y e h = refl
-  every-set (x ∷ xs) zero y e h = rw (h) (both (p x) (every p xs) e .1)
-  every-set (x ∷ xs) (suc i) y e h = let b = both (p x) (every p xs) e in rw (b .0) (every-set xs i y (b .1) h)
-
   every-stored : (n : ℕ) (l : List A) (i : ℕ) (y : A) → every p l ≡ true → every p (set l i y) ≡ true → every p (storedAt n l i y) ≡ true
   every-stored n l i y e h = by (ltb i n) (λ c. rw c h) (λ c. rw c e)
 
@@ -102,32 +89,27 @@ module _ (m : MqttMonitor) (msg : MqttMessage) (topic : List ℕ) where
   fed-fine true e = tracker-fine topic (m .«ewma_trackers») (msg .«payload_len») (msg .«timestamp_us») e
   fed-fine false e = refl
 
--- five tests that hold together
-five : (a b c d e : Bool) → a && b && c && d && e ≡ true → (a ≡ true) × (b ≡ true) × (c ≡ true) × (d ≡ true) × (e ≡ true)
-five a b c d e h =
-    let p = both (a && b && c && d) e h in
-    let q = both (a && b && c) d (p .0) in
-    let r = both (a && b) c (q .0) in
-    let s = both a b (r .0) in (s .0, s .1, r .1, q .1, p .1)
-
 -- a plan applied
-applied-formed : (matcher : List ℕ → List ℕ → Bool) (m : MqttMonitor) (msg : MqttMessage) (topic payload : List ℕ) → wellFormed m ≡ true
+pub applied-formed : (matcher : List ℕ → List ℕ → Bool) (m : MqttMonitor) (msg : MqttMessage) (topic payload : List ℕ) → wellFormed m ≡ true
     → wellFormed (applied m (planOf matcher m msg topic payload)) ≡ true
 unfolding wellFormed applied planOf planFrom
 applied-formed matcher m msg topic payload f =
-    let h = five (leb (m .«rule_count») 32) (every ruleFine (take (m .«rule_count») (m .rules))) (every bucketFine (m .«rate_buckets»))
-    (every windowFine (m .«client_hashes»)) (every trackerFine (m .«ewma_trackers»)) f in
+    let h = formed-parts m f in
     let g = gateIn matcher m msg topic in
     let w = seenOf m msg topic in
     let k = fedOf (m .«ewma_trackers») (g .feeds) topic (msg .«payload_len») (msg .«timestamp_us») in
-    rw (
-      h .0,
-      h .1,
-      every-stored bucketFine 32 (m .«rate_buckets») _ _ (h .2) (spent-fine m msg topic (g .rate) (h .2)),
-      every-stored windowFine 16 (m .«client_hashes») (w .at) (w .entry) (h .3) (every-set windowFine (m .«client_hashes») (w .at) (w .entry) (h .3) (seen-fine m msg topic (h .3))),
-    )
-    (every-stored trackerFine 16 (m .«ewma_trackers») (k .at) (k .tracker) (h .4)
-    (every-set trackerFine (m .«ewma_trackers») (k .at) (k .tracker) (h .4) (fed-fine m msg topic (g .feeds) (h .4))))
+    parts-formed (applied m (planOf matcher m msg topic payload))
+    (record {
+      count = h .count;
+      rules-fine = h .rules-fine;
+      buckets-fine = every-stored bucketFine 32 (m .«rate_buckets») _ _ (h .buckets-fine) (spent-fine m msg topic (g .rate) (h .buckets-fine));
+      windows-fine =
+          every-stored windowFine 16 (m .«client_hashes») (w .at) (w .entry) (h .windows-fine)
+          (every-set windowFine (m .«client_hashes») (w .at) (w .entry) (h .windows-fine) (seen-fine m msg topic (h .windows-fine)));
+      trackers-fine =
+          every-stored trackerFine 16 (m .«ewma_trackers») (k .at) (k .tracker) (h .trackers-fine)
+          (every-set trackerFine (m .«ewma_trackers») (k .at) (k .tracker) (h .trackers-fine) (fed-fine m msg topic (g .feeds) (h .trackers-fine)));
+    })
 
 -- an inspection
 pub kept-formed : (matcher : List ℕ → List ℕ → Bool) (m : MqttMonitor) (msg : MqttMessage) (topic payload : List ℕ) → wellFormed m ≡ true
