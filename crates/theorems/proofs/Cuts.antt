@@ -6,7 +6,8 @@ use Prim.Native.Nat.{ℕ, _≤_}
 use native.Mathlib.Omega.{arith}
 use Rattle.tables.specs.declared.identity.Id.{Id}
 use Rattle.monitor.specs.declared.state.MqttMonitor.{MqttMonitor}
-use Rattle.theorems.specs.Run.{Matcher, Call, time, after, rateOf, reaches, InOrder, single, later, OneRate, done, next, arrived}
+use Rattle.monitor.specs.Runs.{Call, after}
+use Rattle.theorems.specs.Run.{Matcher, time, rateOf, reaches, InOrder, single, later, OneRate, done, next, arrived}
 
 -- a run that begins at s and ends at e, timestamps never going back
 abbrev pub Timed : ℕ → List Call → ℕ → Type 0

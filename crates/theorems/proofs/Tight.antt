@@ -19,7 +19,8 @@ use Rattle.monitor.specs.Inspect.{applied, inspectRefusal, inspectWith}
 use Rattle.monitor.specs.Plan.{seenOf, spentOf, fedOf, denialOf, planFrom, planOf}
 use Rattle.monitor.specs.State.{every, wellFormed}
 use Rattle.theorems.specs.Corners.{bytes}
-use Rattle.theorems.specs.Run.{Prepared, made, rule, InOrder, single, later, done, next, after, rateOf, reaches, allowedOf, isAmong, arrived}
+use Rattle.monitor.specs.Runs.{after}
+use Rattle.theorems.specs.Run.{Prepared, made, rule, InOrder, single, later, done, next, rateOf, reaches, allowedOf, isAmong, arrived}
 use Rattle.theorems.specs.Tight.{hub, publish, busy, Met, crowd, Night}
 
 hub-prepared : (rate : ℕ) → Prepared (hub rate)

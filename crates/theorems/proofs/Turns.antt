@@ -22,7 +22,8 @@ use Rattle.monitor.specs.State.{wellFormed}
 use Rattle.monitor.specs.declared.state.MqttMonitor.{MqttMonitor}
 use Rattle.monitor.proofs.KeptFormed.{kept-formed}
 use Rattle.monitor.proofs.Link.{SameRules, refused, rules-stay, not-asked, asked, allowed}
-use Rattle.theorems.specs.Run.{Matcher, Prepared, made, storm, rule, Call, time, answer, isAllowed, after, used, rateOf, reaches}
+use Rattle.monitor.specs.Runs.{Call, answer, after}
+use Rattle.theorems.specs.Run.{Matcher, Prepared, made, storm, rule, time, isAllowed, used, rateOf, reaches}
 use Rattle.theorems.proofs.Holders.{Named, names}
 
 -- a used topic's identity

@@ -1,4 +1,5 @@
--- Runs of a monitor: a fresh one with rules, then calls. Today a call is an inspection; the change requests add others.
+-- Runs of a monitor (`monitor`'s specs/Runs.antt) that begin with a fresh one and its rules, and what is said of their messages. Today a call is an inspection; the change
+-- requests add others.
 -- Assumes nothing.
 use mathlib.Core.Path.{_≡_}
 use mathlib.Core.Bool.{Bool, true, false, cond, _&&_}
@@ -11,11 +12,10 @@ use Rattle.tables.specs.declared.identity.Id.{Id}
 use Rattle.tables.specs.declared.rules.QosPolicy.{QosPolicy}
 use Rattle.tables.specs.declared.rules.TopicAction.{TopicAction}
 use Rattle.monitor.specs.Calls.{fresh, addRule, setStorm}
-use Rattle.monitor.specs.Inspect.{inspectWith, inspectRefusal}
+use Rattle.monitor.specs.Inspect.{inspectRefusal}
 use Rattle.monitor.specs.Message.{usedTopic}
 use Rattle.monitor.specs.Plan.{gateIn}
-use Rattle.monitor.specs.declared.inspection.Inspected.{Inspected}
-use Rattle.monitor.specs.declared.message.MqttMessage.{MqttMessage}
+use Rattle.monitor.specs.Runs.{Call, answer}
 use Rattle.monitor.specs.declared.state.MqttMonitor.{MqttMonitor}
 
 -- a matcher of the rules: topic, then pattern
@@ -30,28 +30,13 @@ pub data Prepared : MqttMonitor → Type 0 where
       {m : MqttMonitor} → Prepared m → (pattern : List ℕ) (action : TopicAction) (policy : QosPolicy) (rate : ℕ)
       → Prepared (addRule m pattern action policy rate .monitor)
 
--- an inspection: the message and the two lent buffers
-pub record Call : Type 0 where
-  pub msg : MqttMessage
-  pub topic : List ℕ
-  pub payload : List ℕ
-
 -- a call's time
 abbrev pub time : Call → ℕ
 time c = c .msg .«timestamp_us»
 
--- what a call hands back
-abbrev pub answer : Matcher → MqttMonitor → Call → Inspected
-answer matcher m c = inspectWith matcher m (c .msg) (c .topic) (c .payload)
-
 -- whether its message is allowed
 abbrev pub isAllowed : Matcher → MqttMonitor → Call → Bool
 isAllowed matcher m c = answer matcher m c .result .allowed
-
--- the state after a run of calls
-unfoldable pub after : Matcher → MqttMonitor → List Call → MqttMonitor
-after matcher m [] = m
-after matcher m (c ∷ cs) = after matcher (answer matcher m c .monitor) cs
 
 -- the topic that a call's message uses
 abbrev pub used : Call → List ℕ

@@ -17,7 +17,8 @@ use Rattle.monitor.specs.declared.alerts.MqttInspectResult.{MqttInspectResult}
 use Rattle.monitor.specs.declared.message.MqttPacketType.the-variants.{Publish}
 use Rattle.monitor.specs.declared.state.MqttMonitor.{MqttMonitor}
 use Rattle.theorems.specs.Corners.{bytes}
-use Rattle.theorems.specs.Run.{Prepared, Call, answer, after, InOrder, OneRate, allowedOf, arrived}
+use Rattle.monitor.specs.Runs.{Call, answer, after}
+use Rattle.theorems.specs.Run.{Prepared, InOrder, OneRate, allowedOf, arrived}
 
 -- a monitor that blocks all but the topics under `m`, each at a rate
 unfoldable pub hub : ℕ → MqttMonitor
