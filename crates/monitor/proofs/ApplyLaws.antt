@@ -1,5 +1,5 @@
 -- An inspection from what its calls handed back: the refusals in their order, a store on either side of its test, and the state that the stores leave. Assumes nothing.
-use mathlib.Core.Bool.{Bool, true, false, cond, not}
+use mathlib.Core.Bool.{Bool, true, false, not}
 use mathlib.Core.List.{List}
 use mathlib.Core.Path.{_≡_, sym, _∙_}
 use Prim.Native.Nat.{ℕ, _<_, _≤_}
@@ -9,7 +9,7 @@ use Rattle.tables.specs.declared.buckets.RateBucket.{RateBucket}
 use Rattle.tables.specs.declared.trackers.EwmaTracker.{EwmaTracker}
 use Rattle.tables.specs.declared.windows.ClientStormEntry.{ClientStormEntry}
 use Rattle.monitor.specs.Alerts.{counted}
-use Rattle.monitor.specs.Inspect.{storedAt, applied, resultOf, inspectRefusal, doneWith, refusedWith, inspectWith}
+use Rattle.monitor.specs.Inspect.{storedAt, applied, resultOf, inspectRefusal, refusedWith, inspectWith}
 use Rattle.monitor.specs.Message.{usedTopic, usedPayload}
 use Rattle.monitor.specs.Plan.{planOf}
 use Rattle.monitor.specs.State.{wellFormed, withTables, withCounters}
@@ -47,7 +47,8 @@ pub stored-all : (m : MqttMonitor) (p : Plan) {a b c : MqttMonitor} {n : ℕ}
 unfolding applied
 stored-all m p ea eb ec en = rw (ec, eb, ea, en)
 
-module _ (matcher : List ℕ → List ℕ → Bool) (m : MqttMonitor) (msg : MqttMessage) (topic payload : List ℕ) {formed : Bool} (test : formed ≡ wellFormed m) where
+module _ (matcher : List ℕ → List ℕ → Bool) (m : MqttMonitor) (msg : MqttMessage) (topic payload : List ℕ) {formed : Bool}
+    (test : formed ≡ wellFormed m) where
   -- refused by 10
   pub not-formed : {r : Inspected} → not formed ≡ true → r ≡ refusedWith m 10 → r ≡ inspectWith matcher m msg topic payload
   unfolding inspectWith inspectRefusal
@@ -59,7 +60,8 @@ module _ (matcher : List ℕ → List ℕ → Bool) (m : MqttMonitor) (msg : Mqt
     unfolding inspectWith inspectRefusal
     short-topic l e = rw (sym test ∙ not-false formed h, ← front, lt-ltb _ _ l) e
 
-    pub short-payload : {k : ℕ} {r : Inspected} → n ≤ length topic → k ≡ usedPayload msg → length payload < k → r ≡ refusedWith m 9 → r ≡ inspectWith matcher m msg topic payload
+    pub short-payload : {k : ℕ} {r : Inspected} → n ≤ length topic → k ≡ usedPayload msg → length payload < k → r ≡ refusedWith m 9
+        → r ≡ inspectWith matcher m msg topic payload
     unfolding inspectWith inspectRefusal
     short-payload l back s e = rw (sym test ∙ not-false formed h, ← front, le-ltb _ _ l, ← back, lt-ltb _ _ s) e
 

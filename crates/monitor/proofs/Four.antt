@@ -1,9 +1,9 @@
--- Document 01, "Order inside one inspection": at most four alerts, and none is dropped. What a message raises is exactly the kinds of what was found of it, in their order.
--- Under any matcher. Assumes nothing.
+-- Document 01, "Order inside one inspection": at most four alerts, and none is dropped. What a message raises is exactly the kinds of what was found of it, in
+-- their order. Under any matcher. Assumes nothing.
 use mathlib.Core.Bool.{Bool}
 use mathlib.Core.List.{List, [], _∷_, _++_, foldl, append-nil, append-assoc, map-append}
-use mathlib.Core.Path.{_≡_, refl, sym, ap, _∙_}
-use Prim.Native.Nat.{ℕ, suc, _+_, _≤_, _<_}
+use mathlib.Core.Path.{_≡_, refl, sym, _∙_}
+use Prim.Native.Nat.{ℕ, _+_, _≤_, _<_}
 use native.Mathlib.Numerals.{add-one}
 use native.Mathlib.Omega.{arith}
 use borrow.Author.Tests.{lt-ltb}
@@ -27,7 +27,8 @@ module _ (hash : List ℕ) (t : ℕ) where
   unfolding raise kindsAmong
   told-one a k h l =
       let r : a .count < length (a .alerts) = omega arith in
-      rw (lt-ltb (a .count) 4 h, add-one, take-suc-set (a .alerts) (a .count) (alertOf hash t (a .«next_id») k) r) (map-append (λ x. x .«source_id») (take (a .count) (a .alerts)) _)
+      rw (lt-ltb (a .count) 4 h, add-one, take-suc-set (a .alerts) (a .count) (alertOf hash t (a .«next_id») k) r)
+      (map-append (λ x. x .«source_id») (take (a .count) (a .alerts)) _)
 
   told-count : (a : Raised) (k : ℕ) → a .count < 4 → raise hash t a k .count ≡ a .count + 1
   unfolding raise
@@ -42,7 +43,8 @@ module _ (hash : List ℕ) (t : ℕ) where
   told-from [] a h l = sym (append-nil _)
   told-from (k ∷ ks) a h l =
       let c = told-count a k (omega arith) in
-      told-from ks (raise hash t a k) (omega arith) (room a k l) ∙ rw (told-one a k (omega arith) l) (append-assoc (kindsAmong (a .count) (a .alerts)) (k ∷ []) ks)
+      told-from ks (raise hash t a k) (omega arith) (room a k l)
+      ∙ rw (told-one a k (omega arith) l) (append-assoc (kindsAmong (a .count) (a .alerts)) (k ∷ []) ks)
 
   told-all : (id total : ℕ) (kinds : List ℕ) → length kinds ≤ 4
       → kindsAmong (raiseAll hash t id total kinds .count) (raiseAll hash t id total kinds .alerts) ≡ kinds
@@ -58,11 +60,13 @@ module _ (matcher : List ℕ → List ℕ → Bool) (m : MqttMonitor) (msg : Mqt
   pub all-counted : planOf matcher m msg topic payload .raised .count ≡ length (kindsOf (findingsIn matcher m msg topic payload))
   unfolding planOf planFrom
   all-counted =
-      raised-count (payloadHash payload) (msg .«timestamp_us») (m .«next_alert_id») (m .«total_alerts») (kindsOf (findingsIn matcher m msg topic payload)) at-most-four
+      raised-count (payloadHash payload) (msg .«timestamp_us») (m .«next_alert_id») (m .«total_alerts»)
+      (kindsOf (findingsIn matcher m msg topic payload)) at-most-four
 
   -- and theirs are the kinds, in their order
   pub all-told : kindsAmong (planOf matcher m msg topic payload .raised .count) (planOf matcher m msg topic payload .raised .alerts)
       ≡ kindsOf (findingsIn matcher m msg topic payload)
   unfolding planOf planFrom
   all-told =
-      told-all (payloadHash payload) (msg .«timestamp_us») (m .«next_alert_id») (m .«total_alerts») (kindsOf (findingsIn matcher m msg topic payload)) at-most-four
+      told-all (payloadHash payload) (msg .«timestamp_us») (m .«next_alert_id») (m .«total_alerts»)
+      (kindsOf (findingsIn matcher m msg topic payload)) at-most-four

@@ -44,8 +44,10 @@ module _ (m : MqttMonitor) (msg : MqttMessage) (topic : List ℕ) {n : ℕ} {see
   seen-no h e = rw (← type, ne-eqb n 1 h) e
 
 -- the limiter and the tracker, with the identity that was made for either
-module _ (topic : List ℕ) (rate : ℕ) (feeds : Bool) {wanted : Bool} {id : Id} (want : wanted ≡ (ltb 0 rate || feeds)) (made : id ≡ cond wanted (idOf topic) emptyId) where
-  pub spent-yes : (buckets : List RateBucket) (t : ℕ) {spent : RateDecision} → 0 < rate → spent ≡ decide buckets id rate t → spent ≡ spentOf buckets rate topic t
+module _ (topic : List ℕ) (rate : ℕ) (feeds : Bool) {wanted : Bool} {id : Id} (want : wanted ≡ (ltb 0 rate || feeds))
+    (made : id ≡ cond wanted (idOf topic) emptyId) where
+  pub spent-yes : (buckets : List RateBucket) (t : ℕ) {spent : RateDecision} → 0 < rate → spent ≡ decide buckets id rate t
+      → spent ≡ spentOf buckets rate topic t
   unfolding spentOf
   spent-yes buckets t h e =
       let on = lt-ltb 0 rate h in

@@ -20,7 +20,8 @@ use Rattle.monitor.proofs.AlertLaws.{raised-total}
 use Rattle.monitor.proofs.Four.{at-most-four, all-counted}
 
 -- a plan
-plan-total : (matcher : List ℕ → List ℕ → Bool) (m : MqttMonitor) (msg : MqttMessage) (topic payload : List ℕ) → m .«total_alerts» ≤ 18446744073709551615
+plan-total : (matcher : List ℕ → List ℕ → Bool) (m : MqttMonitor) (msg : MqttMessage) (topic payload : List ℕ)
+    → m .«total_alerts» ≤ 18446744073709551615
     → planOf matcher m msg topic payload .raised .total
     ≡ min (m .«total_alerts» + planOf matcher m msg topic payload .raised .count) 18446744073709551615
 unfolding planOf planFrom
@@ -30,7 +31,8 @@ plan-total matcher m msg topic payload fits =
     (at-most-four matcher m msg topic payload) fits)
 
 -- an inspection
-pub total-after : (matcher : List ℕ → List ℕ → Bool) (m : MqttMonitor) (msg : MqttMessage) (topic payload : List ℕ) → m .«total_alerts» ≤ 18446744073709551615
+pub total-after : (matcher : List ℕ → List ℕ → Bool) (m : MqttMonitor) (msg : MqttMessage) (topic payload : List ℕ)
+    → m .«total_alerts» ≤ 18446744073709551615
     → inspectWith matcher m msg topic payload .monitor .«total_alerts»
     ≡ min (m .«total_alerts» + inspectWith matcher m msg topic payload .result .«alert_count») 18446744073709551615
 unfolding inspectWith applied

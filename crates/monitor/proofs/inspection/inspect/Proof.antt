@@ -1,6 +1,6 @@
 -- `inspection::inspect` meets its contract: the refusals in the definition's order, then three stores, each on either side of its test (ApplyLaws). Assumes nothing.
 use mathlib.Core.Logic.{⊎-elim}
-use mathlib.Core.Path.{_≡_, sym, _∙_}
+use mathlib.Core.Path.{_≡_, sym}
 use lib.Seq.{length-take-le}
 use Rattle.topics.specs.Matching.{portMatches}
 use Rattle.monitor.specs.Inspect.{storedAt}
@@ -74,8 +74,9 @@ count-on-requires c κs = search needs
 
 -- the state after each store, where the ways from its test meet
 client-is : (c : tie.Joined4)
-    → c .if4 .next
-    ≡ withClients (c .before .before .before .before .before .before .before .before .before .before .before .before .before .before .before .args .m) (storedAt 16 (c .before .before .before .before .before .before .before .before .before .before .before .before .before .before .before .args .m .«client_hashes») (c .before .before .plan-for .result .seen .at) (c .before .before .plan-for .result .seen .entry))
+    → let m = c .before .before .before .before .before .before .before .before .before .before .before .before .before .before .before .args .m in
+    let d = c .before .before .plan-for .result .seen in
+    c .if4 .next ≡ withClients m (storedAt 16 (m .«client_hashes») (d .at) (d .entry))
 client-is c =
     let m = c .before .before .before .before .before .before .before .before .before .before .before .before .before .before .before .args .m in
     let d = c .before .before .plan-for .result .seen in
@@ -85,8 +86,9 @@ client-is c =
     (c .if4 .came)
 
 bucket-is : (c : tie.Joined5)
-    → c .if5 .next
-    ≡ withBuckets (c .before .before .if4 .next) (storedAt 32 (c .before .before .if4 .next .«rate_buckets») (c .before .before .before .before .plan-for .result .spent .at) (c .before .before .before .before .plan-for .result .spent .bucket))
+    → let m = c .before .before .if4 .next in
+    let d = c .before .before .before .before .plan-for .result .spent in
+    c .if5 .next ≡ withBuckets m (storedAt 32 (m .«rate_buckets») (d .at) (d .bucket))
 bucket-is c =
     let m = c .before .before .if4 .next in
     let d = c .before .before .before .before .plan-for .result .spent in
@@ -96,8 +98,9 @@ bucket-is c =
     (c .if5 .came)
 
 tracker-is : (c : tie.Joined6)
-    → c .if6 .next
-    ≡ withTrackers (c .before .before .if5 .next) (storedAt 16 (c .before .before .if5 .next .«ewma_trackers») (c .before .before .before .before .before .before .plan-for .result .fed .at) (c .before .before .before .before .before .before .plan-for .result .fed .tracker))
+    → let m = c .before .before .if5 .next in
+    let d = c .before .before .before .before .before .before .plan-for .result .fed in
+    c .if6 .next ≡ withTrackers m (storedAt 16 (m .«ewma_trackers») (d .at) (d .tracker))
 tracker-is c =
     let m = c .before .before .if5 .next in
     let d = c .before .before .before .before .before .before .plan-for .result .fed in
@@ -107,7 +110,14 @@ tracker-is c =
     (c .if6 .came)
 
 returns-4 : tie.Need-returns-4
-returns-4 c = inspected portMatches _ _ _ _ (c .before .before .before .before .before .before .before .before .before .before .before .before .before .before .before .before .before .before .before .well-formed .ensures) (c .before .before .before .before .before .before .before .before .before .before .before .before .before .before .before .before .before .before .if1 .left) (c .before .before .before .before .before .before .before .before .before .before .before .before .before .before .before .before .used .ensures) (c .before .before .before .before .before .before .before .before .before .before .before .before .before .before .before .if2 .left) (c .before .before .before .before .before .before .before .before .before .before .before .before .before .used2 .ensures) (c .before .before .before .before .before .before .before .before .before .before .before .before .if3 .left) (c .before .before .before .before .before .before .before .before .before .plan-for .ensures) (stored-all _ _ (client-is (c .before .before .before .before .before .before .before)) (bucket-is (c .before .before .before .before .before)) (tracker-is (c .before .before .before)) (c .before .count-on .ensures))
+returns-4 c =
+    let tracker = c .before .before .before in
+    let bucket = tracker .before .before in
+    let client = bucket .before .before in
+    let formed = c .before .before .before .before .before .before .before .before .before .before .before .before .before .before .before .before .before .before .before .well-formed .ensures in
+    let stored = stored-all _ _ (client-is client) (bucket-is bucket) (tracker-is tracker) (c .before .count-on .ensures) in
+    inspected portMatches _ _ _ _ formed (c .before .before .before .before .before .before .before .before .before .before .before .before .before .before .before .before .before .before .if1 .left) (c .before .before .before .before .before .before .before .before .before .before .before .before .before .before .before .before .used .ensures) (c .before .before .before .before .before .before .before .before .before .before .before .before .before .before .before .if2 .left) (c .before .before .before .before .before .before .before .before .before .before .before .before .before .used2 .ensures) (c .before .before .before .before .before .before .before .before .before .before .before .before .if3 .left)
+    (c .before .before .before .before .before .before .before .before .before .plan-for .ensures) stored
 
 pub inspect-spec : {M : Type 1} → statement M
 inspect-spec =

@@ -55,36 +55,48 @@ raise-all-requires : tie.Need-raise-all-requires
 raise-all-requires c κs = search needs
 
 -- what each table that may be asked decided, where the ways from its test meet
-seen-is : (c : tie.Joined1)
-    → c .if1 .seen ≡ seenOf (c .before .before .before .before .before .before .before .args .m) (c .before .before .before .before .before .before .before .args .msg) (c .before .before .before .before .before .before .before .args .topic .now)
+seen-is : (c : tie.Joined1) → let s = c .before .before .before .before .before .before .before .args in c .if1 .seen ≡ seenOf (s .m) (s .msg) (s .topic .now)
 seen-is c =
+    let n = c .before .type-number .ensures in
     ⊎-elim
-    (λ w. seen-yes _ _ _ (c .before .type-number .ensures) (w .0 .taken) (w .2 .ensures) (w .4 ∙ w .3 .ensures))
-    (λ w. seen-no _ _ _ (c .before .type-number .ensures) (w .0 .left) (w .1 ∙ c .before .before .not-connected .ensures))
+    (λ w. seen-yes _ _ _ n (w .0 .taken) (w .2 .ensures) (w .4 ∙ w .3 .ensures))
+    (λ w. seen-no _ _ _ n (w .0 .left) (w .1 ∙ c .before .before .not-connected .ensures))
     (c .if1 .came)
 
 spent-is : (c : tie.Joined2)
-    → c .if2 .spent ≡ spentOf (c .before .before .before .before .before .before .before .before .before .before .before .before .args .m .«rate_buckets») (c .before .before .before .before .before .before .before .before .gate-for .result .rate) (c .before .before .before .before .before .before .before .before .before .before .before .before .args .topic .now) (c .before .before .before .before .before .before .before .before .before .before .before .before .args .msg .«timestamp_us»)
+    → c .if2 .spent
+    ≡ spentOf (c .before .before .before .before .before .before .before .before .before .before .before .before .args .m .«rate_buckets»)
+    (c .before .before .before .before .before .before .before .before .gate-for .result .rate)
+    (c .before .before .before .before .before .before .before .before .before .before .before .before .args .topic .now)
+    (c .before .before .before .before .before .before .before .before .before .before .before .before .args .msg .«timestamp_us»)
 spent-is c =
     ⊎-elim
-    (λ w. spent-yes _ _ (c .before .before .before .before .before .before .before .before .gate-for .result .feeds) (c .before .before .before .before .wants-id .ensures) (c .before .before .before .id-if .ensures) _ _ (w .0 .taken) (w .3 ∙ w .2 .ensures))
+    (λ w. spent-yes _ _ (c .before .before .before .before .before .before .before .before .gate-for .result .feeds) (c .before .before .before .before .wants-id .ensures)
+    (c .before .before .before .id-if .ensures) _ _ (w .0 .taken) (w .3 ∙ w .2 .ensures))
     (λ w. spent-no _ _ _ (w .0 .left) (w .1 ∙ c .before .before .not-limited .ensures))
     (c .if2 .came)
 
 fed-is : (c : tie.Joined3)
     → c .if3 .fed
-    ≡ fedOf (c .before .before .before .before .before .before .before .before .before .before .before .before .before .before .args .m .«ewma_trackers») (c .before .before .before .before .before .before .before .before .before .before .gate-for .result .feeds) (c .before .before .before .before .before .before .before .before .before .before .before .before .before .before .args .topic .now) (c .before .before .before .before .before .before .before .before .before .before .before .before .before .before .args .msg .«payload_len»)
+    ≡ fedOf (c .before .before .before .before .before .before .before .before .before .before .before .before .before .before .args .m .«ewma_trackers»)
+    (c .before .before .before .before .before .before .before .before .before .before .gate-for .result .feeds)
+    (c .before .before .before .before .before .before .before .before .before .before .before .before .before .before .args .topic .now)
+    (c .before .before .before .before .before .before .before .before .before .before .before .before .before .before .args .msg .«payload_len»)
     (c .before .before .before .before .before .before .before .before .before .before .before .before .before .before .args .msg .«timestamp_us»)
 fed-is c =
     ⊎-elim
-    (λ w. fed-yes _ (c .before .before .before .before .before .before .before .before .before .before .gate-for .result .rate) _ (c .before .before .before .before .before .before .wants-id .ensures) (c .before .before .before .before .before .id-if .ensures) _ _ _ (w .0 .taken) (w .3 ∙ w .2 .ensures))
+    (λ w. fed-yes _ (c .before .before .before .before .before .before .before .before .before .before .gate-for .result .rate) _ (c .before .before .before .before .before .before .wants-id .ensures)
+    (c .before .before .before .before .before .id-if .ensures) _ _ _ (w .0 .taken) (w .3 ∙ w .2 .ensures))
     (λ w. fed-no _ _ _ _ (w .0 .left) (w .1 ∙ c .before .not-fed .ensures))
     (c .if3 .came)
 
 returns : tie.Need-returns
 unfolding denialOf
 returns c =
-    planned portMatches _ _ _ _ (c .before .before .before .before .before .before .before .before .before .before .before .before .before .before .before .gate-for .ensures) (seen-is (c .before .before .before .before .before .before .before .before .before .before .before .before)) (spent-is (c .before .before .before .before .before .before .before)) (fed-is (c .before .before .before .before .before))
+    let fed = c .before .before .before .before .before in
+    let spent = fed .before .before in
+    let seen = c .before .before .before .before .before .before .before .before .before .before .before .before in
+    planned portMatches _ _ _ _ (seen .before .before .before .gate-for .ensures) (seen-is seen) (spent-is spent) (fed-is fed)
     (c .before .before .before .before .denial-for .ensures) (c .before .before .wants-hash .ensures) (c .before .hash-if .ensures) (c .raise-all .ensures)
 
 pub plan-for-spec : {M : Type 1} → statement M
