@@ -21,7 +21,7 @@ struct ClientHashes {
 /* How a trace ended. */
 struct HubTrace {
     uint32_t number; /* 0 for a whole trace, else the number of its refusal, as in the answer's `end=` line */
-    uint32_t line;   /* the last line of a whole trace, else the refused one; 0 with 27 and 28 */
+    uint64_t line;   /* the last line of a whole trace, else the refused one; 0 with 27 and 28 */
     size_t length;   /* how many bytes of answer stand at `out` */
 };
 

@@ -15,7 +15,7 @@ pub struct ClientHashes {
 #[derive(Clone, Copy, Debug, PartialEq, Eq)]
 pub struct HubTrace {
     pub number: u32,
-    pub line: u32,
+    pub line: u64,
     pub length: usize,
 }
 

@@ -196,7 +196,7 @@ impl Run {
 /// What is wrong with the port's answer to a text, if anything.
 fn difference(text: &[u8], end: End, expected: &[u8], spare: usize) -> Option<String> {
     let length = expected.len();
-    let wanted = HubTrace { number: end.number, line: end.line, length };
+    let wanted = HubTrace { number: end.number, line: end.line.into(), length };
     let mut room = vec![0xa5; length + spare];
     if hub::trace(text, &mut room) != wanted || room[..length] != *expected {
         return Some(first_difference(text, wanted, expected));

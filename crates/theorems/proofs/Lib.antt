@@ -1,9 +1,17 @@
+pub mod AnswersCut
+pub mod AnswersHub
+pub mod AnswersLines
+pub mod AnswersMonitor
+pub mod AnswersTables
+pub mod AnswersTopics
 pub mod Budget
 pub mod Corners
 pub mod Cuts
 pub mod Holders
 pub mod Lower
 pub mod Seats
+pub mod ShutOut
+pub mod Slips
 pub mod Tight
 pub mod Turns
 pub mod Upper

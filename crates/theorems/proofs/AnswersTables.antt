@@ -1,0 +1,236 @@
+-- One answer for every public function of `tables`, and nothing asked of its caller (specs/One.antt). The checker has no reading of `try_consume`, which alters a lent
+-- struct: there the promise is written out, shown to be what the clauses say, and has one answer. Assumes nothing.
+use mathlib.Core.Path.{_≡_, refl, sym, _∙_}
+use denote.Ref.{now}
+use Rattle.tables.specs.Buckets.{spend}
+use Rattle.theorems.specs.One.{Out, Any, One, OneLeft, Says, AsksNothing}
+use Rattle.tables.proofs.buckets.consume as buckets-consume
+use Rattle.tables.proofs.buckets.consume.Reads as buckets-consume-reads
+use Rattle.tables.proofs.buckets.is_expired as buckets-is-expired
+use Rattle.tables.proofs.buckets.is_expired.Reads as buckets-is-expired-reads
+use Rattle.tables.proofs.buckets.rate_limit_check as buckets-rate-limit-check
+use Rattle.tables.proofs.buckets.rate_limit_check.Reads as buckets-rate-limit-check-reads
+use Rattle.tables.proofs.buckets.removed_bucket as buckets-removed-bucket
+use Rattle.tables.proofs.buckets.removed_bucket.Reads as buckets-removed-bucket-reads
+use Rattle.tables.proofs.buckets.empty_bucket as buckets-empty-bucket
+use Rattle.tables.proofs.buckets.empty_bucket.Reads as buckets-empty-bucket-reads
+use Rattle.tables.proofs.buckets.bucket_fine as buckets-bucket-fine
+use Rattle.tables.proofs.buckets.bucket_fine.Reads as buckets-bucket-fine-reads
+use Rattle.tables.proofs.identity.id_of as identity-id-of
+use Rattle.tables.proofs.identity.id_of.Reads as identity-id-of-reads
+use Rattle.tables.proofs.identity.is_of as identity-is-of
+use Rattle.tables.proofs.identity.is_of.Reads as identity-is-of-reads
+use Rattle.tables.proofs.identity.is_removed as identity-is-removed
+use Rattle.tables.proofs.identity.is_removed.Reads as identity-is-removed-reads
+use Rattle.tables.proofs.identity.empty_id as identity-empty-id
+use Rattle.tables.proofs.identity.empty_id.Reads as identity-empty-id-reads
+use Rattle.tables.proofs.rules.empty_rule as rules-empty-rule
+use Rattle.tables.proofs.rules.empty_rule.Reads as rules-empty-rule-reads
+use Rattle.tables.proofs.rules.check_qos_policy as rules-check-qos-policy
+use Rattle.tables.proofs.rules.check_qos_policy.Reads as rules-check-qos-policy-reads
+use Rattle.tables.proofs.rules.rule_fine as rules-rule-fine
+use Rattle.tables.proofs.rules.rule_fine.Reads as rules-rule-fine-reads
+use Rattle.tables.proofs.rules.first_rule as rules-first-rule
+use Rattle.tables.proofs.rules.first_rule.Reads as rules-first-rule-reads
+use Rattle.tables.proofs.rules.equal_rule as rules-equal-rule
+use Rattle.tables.proofs.rules.equal_rule.Reads as rules-equal-rule-reads
+use Rattle.tables.proofs.rules.shadow_count as rules-shadow-count
+use Rattle.tables.proofs.rules.shadow_count.Reads as rules-shadow-count-reads
+use Rattle.tables.proofs.trackers.update as trackers-update
+use Rattle.tables.proofs.trackers.update.Reads as trackers-update-reads
+use Rattle.tables.proofs.trackers.is_anomaly as trackers-is-anomaly
+use Rattle.tables.proofs.trackers.is_anomaly.Reads as trackers-is-anomaly-reads
+use Rattle.tables.proofs.trackers.ewma_update as trackers-ewma-update
+use Rattle.tables.proofs.trackers.ewma_update.Reads as trackers-ewma-update-reads
+use Rattle.tables.proofs.trackers.removed_tracker as trackers-removed-tracker
+use Rattle.tables.proofs.trackers.removed_tracker.Reads as trackers-removed-tracker-reads
+use Rattle.tables.proofs.trackers.empty_tracker as trackers-empty-tracker
+use Rattle.tables.proofs.trackers.empty_tracker.Reads as trackers-empty-tracker-reads
+use Rattle.tables.proofs.trackers.tracker_fine as trackers-tracker-fine
+use Rattle.tables.proofs.trackers.tracker_fine.Reads as trackers-tracker-fine-reads
+use Rattle.tables.proofs.windows.«record» as windows-record
+use Rattle.tables.proofs.windows.«record».Reads as windows-record-reads
+use Rattle.tables.proofs.windows.count_in_window as windows-count-in-window
+use Rattle.tables.proofs.windows.count_in_window.Reads as windows-count-in-window-reads
+use Rattle.tables.proofs.windows.record_connect as windows-record-connect
+use Rattle.tables.proofs.windows.record_connect.Reads as windows-record-connect-reads
+use Rattle.tables.proofs.windows.empty_window as windows-empty-window
+use Rattle.tables.proofs.windows.empty_window.Reads as windows-empty-window-reads
+use Rattle.tables.proofs.windows.window_fine as windows-window-fine
+use Rattle.tables.proofs.windows.window_fine.Reads as windows-window-fine-reads
+use Rattle.tables.proofs.buckets.try_consume as buckets-try-consume
+
+pub one-buckets-consume : One buckets-consume.ended buckets-consume-reads.Post
+one-buckets-consume κs a x y e f p q = p ∙ sym q
+
+pub any-buckets-consume : Any buckets-consume.ended buckets-consume-reads.Asked
+any-buckets-consume κs a = tt
+
+pub one-buckets-is-expired : One buckets-is-expired.ended buckets-is-expired-reads.Post
+one-buckets-is-expired κs a x y e f p q = p ∙ sym q
+
+pub any-buckets-is-expired : Any buckets-is-expired.ended buckets-is-expired-reads.Asked
+any-buckets-is-expired κs a = tt
+
+pub one-buckets-rate-limit-check : One buckets-rate-limit-check.ended buckets-rate-limit-check-reads.Post
+one-buckets-rate-limit-check κs a x y e f p q = p ∙ sym q
+
+pub any-buckets-rate-limit-check : Any buckets-rate-limit-check.ended buckets-rate-limit-check-reads.Asked
+any-buckets-rate-limit-check κs a = tt
+
+pub one-buckets-removed-bucket : One buckets-removed-bucket.ended buckets-removed-bucket-reads.Post
+one-buckets-removed-bucket κs a x y e f p q = p ∙ sym q
+
+pub any-buckets-removed-bucket : Any buckets-removed-bucket.ended buckets-removed-bucket-reads.Asked
+any-buckets-removed-bucket κs a = tt
+
+pub one-buckets-empty-bucket : One buckets-empty-bucket.ended buckets-empty-bucket-reads.Post
+one-buckets-empty-bucket κs a x y e f p q = p ∙ sym q
+
+pub any-buckets-empty-bucket : Any buckets-empty-bucket.ended buckets-empty-bucket-reads.Asked
+any-buckets-empty-bucket κs a = tt
+
+pub one-buckets-bucket-fine : One buckets-bucket-fine.ended buckets-bucket-fine-reads.Post
+one-buckets-bucket-fine κs a x y e f p q = p ∙ sym q
+
+pub any-buckets-bucket-fine : Any buckets-bucket-fine.ended buckets-bucket-fine-reads.Asked
+any-buckets-bucket-fine κs a = tt
+
+pub one-identity-id-of : One identity-id-of.ended identity-id-of-reads.Post
+one-identity-id-of κs a x y e f p q = p ∙ sym q
+
+pub any-identity-id-of : Any identity-id-of.ended identity-id-of-reads.Asked
+any-identity-id-of κs a = tt
+
+pub one-identity-is-of : One identity-is-of.ended identity-is-of-reads.Post
+one-identity-is-of κs a x y e f p q = p ∙ sym q
+
+pub any-identity-is-of : Any identity-is-of.ended identity-is-of-reads.Asked
+any-identity-is-of κs a = tt
+
+pub one-identity-is-removed : One identity-is-removed.ended identity-is-removed-reads.Post
+one-identity-is-removed κs a x y e f p q = p ∙ sym q
+
+pub any-identity-is-removed : Any identity-is-removed.ended identity-is-removed-reads.Asked
+any-identity-is-removed κs a = tt
+
+pub one-identity-empty-id : One identity-empty-id.ended identity-empty-id-reads.Post
+one-identity-empty-id κs a x y e f p q = p ∙ sym q
+
+pub any-identity-empty-id : Any identity-empty-id.ended identity-empty-id-reads.Asked
+any-identity-empty-id κs a = tt
+
+pub one-rules-empty-rule : One rules-empty-rule.ended rules-empty-rule-reads.Post
+one-rules-empty-rule κs a x y e f p q = p ∙ sym q
+
+pub any-rules-empty-rule : Any rules-empty-rule.ended rules-empty-rule-reads.Asked
+any-rules-empty-rule κs a = tt
+
+pub one-rules-check-qos-policy : One rules-check-qos-policy.ended rules-check-qos-policy-reads.Post
+one-rules-check-qos-policy κs a x y e f p q = p ∙ sym q
+
+pub any-rules-check-qos-policy : Any rules-check-qos-policy.ended rules-check-qos-policy-reads.Asked
+any-rules-check-qos-policy κs a = tt
+
+pub one-rules-rule-fine : One rules-rule-fine.ended rules-rule-fine-reads.Post
+one-rules-rule-fine κs a x y e f p q = p ∙ sym q
+
+pub any-rules-rule-fine : Any rules-rule-fine.ended rules-rule-fine-reads.Asked
+any-rules-rule-fine κs a = tt
+
+pub one-rules-first-rule : One rules-first-rule.ended rules-first-rule-reads.Post
+one-rules-first-rule κs a x y e f p q = p ∙ sym q
+
+pub any-rules-first-rule : Any rules-first-rule.ended rules-first-rule-reads.Asked
+any-rules-first-rule κs a = tt
+
+pub one-rules-equal-rule : One rules-equal-rule.ended rules-equal-rule-reads.Post
+one-rules-equal-rule κs a x y e f p q = p ∙ sym q
+
+pub any-rules-equal-rule : Any rules-equal-rule.ended rules-equal-rule-reads.Asked
+any-rules-equal-rule κs a = tt
+
+pub one-rules-shadow-count : One rules-shadow-count.ended rules-shadow-count-reads.Post
+one-rules-shadow-count κs a x y e f p q = p ∙ sym q
+
+pub any-rules-shadow-count : Any rules-shadow-count.ended rules-shadow-count-reads.Asked
+any-rules-shadow-count κs a = tt
+
+pub one-trackers-update : One trackers-update.ended trackers-update-reads.Post
+one-trackers-update κs a x y e f p q = p ∙ sym q
+
+pub any-trackers-update : Any trackers-update.ended trackers-update-reads.Asked
+any-trackers-update κs a = tt
+
+pub one-trackers-is-anomaly : One trackers-is-anomaly.ended trackers-is-anomaly-reads.Post
+one-trackers-is-anomaly κs a x y e f p q = p ∙ sym q
+
+pub any-trackers-is-anomaly : Any trackers-is-anomaly.ended trackers-is-anomaly-reads.Asked
+any-trackers-is-anomaly κs a = tt
+
+pub one-trackers-ewma-update : One trackers-ewma-update.ended trackers-ewma-update-reads.Post
+one-trackers-ewma-update κs a x y e f p q = p ∙ sym q
+
+pub any-trackers-ewma-update : Any trackers-ewma-update.ended trackers-ewma-update-reads.Asked
+any-trackers-ewma-update κs a = tt
+
+pub one-trackers-removed-tracker : One trackers-removed-tracker.ended trackers-removed-tracker-reads.Post
+one-trackers-removed-tracker κs a x y e f p q = p ∙ sym q
+
+pub any-trackers-removed-tracker : Any trackers-removed-tracker.ended trackers-removed-tracker-reads.Asked
+any-trackers-removed-tracker κs a = tt
+
+pub one-trackers-empty-tracker : One trackers-empty-tracker.ended trackers-empty-tracker-reads.Post
+one-trackers-empty-tracker κs a x y e f p q = p ∙ sym q
+
+pub any-trackers-empty-tracker : Any trackers-empty-tracker.ended trackers-empty-tracker-reads.Asked
+any-trackers-empty-tracker κs a = tt
+
+pub one-trackers-tracker-fine : One trackers-tracker-fine.ended trackers-tracker-fine-reads.Post
+one-trackers-tracker-fine κs a x y e f p q = p ∙ sym q
+
+pub any-trackers-tracker-fine : Any trackers-tracker-fine.ended trackers-tracker-fine-reads.Asked
+any-trackers-tracker-fine κs a = tt
+
+pub one-windows-record : One windows-record.ended windows-record-reads.Post
+one-windows-record κs a x y e f p q = p ∙ sym q
+
+pub any-windows-record : Any windows-record.ended windows-record-reads.Asked
+any-windows-record κs a = tt
+
+pub one-windows-count-in-window : One windows-count-in-window.ended windows-count-in-window-reads.Post
+one-windows-count-in-window κs a x y e f p q = p ∙ sym q
+
+pub any-windows-count-in-window : Any windows-count-in-window.ended windows-count-in-window-reads.Asked
+any-windows-count-in-window κs a = tt
+
+pub one-windows-record-connect : One windows-record-connect.ended windows-record-connect-reads.Post
+one-windows-record-connect κs a x y e f p q = p ∙ sym q
+
+pub any-windows-record-connect : Any windows-record-connect.ended windows-record-connect-reads.Asked
+any-windows-record-connect κs a = tt
+
+pub one-windows-empty-window : One windows-empty-window.ended windows-empty-window-reads.Post
+one-windows-empty-window κs a x y e f p q = p ∙ sym q
+
+pub any-windows-empty-window : Any windows-empty-window.ended windows-empty-window-reads.Asked
+any-windows-empty-window κs a = tt
+
+pub one-windows-window-fine : One windows-window-fine.ended windows-window-fine-reads.Post
+one-windows-window-fine κs a x y e f p q = p ∙ sym q
+
+pub any-windows-window-fine : Any windows-window-fine.ended windows-window-fine-reads.Asked
+any-windows-window-fine κs a = tt
+
+-- it alters one lent bucket
+abbrev promised-buckets-try-consume : Out buckets-try-consume.ended
+promised-buckets-try-consume κs a x e = (x ≡ spend (now (a .0)) (a .1 .0) .ok) × (now (e .0) ≡ spend (now (a .0)) (a .1 .0) .bucket)
+
+pub says-buckets-try-consume : Says buckets-try-consume.ended (λ M 𝓤. buckets-try-consume.clauses 𝓤) promised-buckets-try-consume
+says-buckets-try-consume M 𝓤 H A mem run κs a g x e = refl
+
+pub one-buckets-try-consume : OneLeft buckets-try-consume.ended promised-buckets-try-consume (λ κs e. now (e .0))
+one-buckets-try-consume κs a x y e f p q = (p .0 ∙ sym (q .0), p .1 ∙ sym (q .1))
+
+pub any-buckets-try-consume : AsksNothing buckets-try-consume.ended (λ M 𝓤. buckets-try-consume.clauses 𝓤)
+any-buckets-try-consume M 𝓤 H A mem run κs a g = refl

@@ -1,0 +1,192 @@
+-- Each refutation is one run. Three messages of one topic in one instant at rate 2 refute a monitor that allows everything; one message of a new topic, one that denies
+-- everything; the counters of inspected messages, one whose state stays. The rest are replies that differ, by computation. Assumes nothing.
+use mathlib.Core.Path.{_≡_, refl, sym, _∙_, ap}
+use mathlib.Core.Bool.{Bool, true, false, false≢true}
+use mathlib.Core.List.{List, [], _∷_, _++_}
+use Prim.Native.Nat.{ℕ, _+_, _≤_, _<_}
+use native.Mathlib.Omega.{arith}
+use lib.ListN.{length}
+use Rattle.topics.specs.Hashes.{fnv1a, djb2, suffixHash}
+use Rattle.topics.specs.Levels.{firstLevel, restLevels, same, has}
+use Rattle.topics.specs.Matching.{matchLevels, fromSlash, takesNone, takesEnd, matchBytes, standardRule, portMatches, standardMatches}
+use Rattle.topics.specs.declared.matching.StandardMatch.{StandardMatch}
+use Rattle.topics.specs.declared.matching.StandardMatch.the-variants.{Yes, No, OutsideDomain}
+use Rattle.topics.specs.Patterns.{wellPlaced, countOf, patternRefusal}
+use Rattle.tables.specs.Buckets.{refilled, spend, isExpired, holdsBucket, newcomer, decide}
+use Rattle.tables.specs.declared.identity.Id.{Id}
+use Rattle.tables.specs.Identity.{prefixOf, idOf, isOf}
+use Rattle.tables.specs.Rules.{qosOk, ruleFine, equalRule, firstRule, covered, shadowedAfter}
+use Rattle.tables.specs.Scan.{find, leastOf}
+use Rattle.monitor.specs.Alerts.{severityOf, hashOf, kindsOf, raise, raiseAll}
+use Rattle.monitor.specs.Calls.{fresh, addRefusal, addedTo, addRule, validateRules}
+use Rattle.monitor.specs.Gate.{rulingOf, gateAfter, gateOf}
+use Rattle.monitor.specs.Inspect.{applied, inspectRefusal, inspectWith}
+use Rattle.monitor.specs.Plan.{seenOf, spentOf, fedOf, denialOf, planFrom, planOf}
+use Rattle.monitor.specs.State.{every, wellFormed}
+use Rattle.monitor.specs.declared.inspection.Inspected.{Inspected}
+use Rattle.monitor.specs.declared.state.MqttMonitor.{MqttMonitor}
+use Rattle.monitor.specs.declared.state.Outcome.{Outcome}
+use Rattle.monitor.specs.declared.state.Outcome.the-variants.{Done, Refused}
+use Rattle.theorems.specs.Corners.{bytes}
+use Rattle.monitor.specs.Runs.{Call, answer, after}
+use Rattle.theorems.specs.Run.{Matcher, InOrder, single, later, OneRate, done, next, rateOf, reaches, allowedOf, isAmong, arrived}
+use Rattle.theorems.specs.ShutOut.{Monitor, passes, afterBy, passedBy, UpperBy, LowerBy, Meets, ShutOut}
+use Rattle.tables.specs.declared.rules.QosPolicy.the-variants.{Any}
+use Rattle.tables.specs.declared.rules.TopicAction.the-variants.{Allow}
+use Rattle.theorems.specs.Tight.{hub, publish}
+use Rattle.theorems.proofs.Lower.{lower-first}
+use Rattle.theorems.proofs.Tight.{hub-prepared}
+use Rattle.theorems.proofs.Turns.{Like, rate-like, formed-there, on, on-run, begin}
+use Rattle.theorems.proofs.Upper.{upper}
+
+-- a message of the one topic, at 0
+abbrev message : Call
+message = publish (bytes "m/a") 0
+
+-- what a monitor with one rule, at rate 2, does with it
+record Facts : Type 0 where
+  reached : reaches portMatches (hub 2) (idOf (bytes "m/a")) message ≡ true
+  one-rate : OneRate portMatches (hub 2) (idOf (bytes "m/a")) 2 (message ∷ message ∷ message ∷ [])
+  few : length (arrived portMatches (hub 2) [] (message ∷ [])) ≤ 32
+  none : hub 2 .«total_inspected» ≡ 0
+  first : answer portMatches (hub 2) message .monitor .«total_inspected» ≡ 1
+  second : answer portMatches (answer portMatches (hub 2) message .monitor) message .monitor .«total_inspected» ≡ 2
+  quiet : answer portMatches (hub 2) message .result .«alert_count» ≡ 0
+
+facts : Facts
+unfolding bytes matchBytes fromSlash takesNone takesEnd firstLevel restLevels same has wellPlaced countOf patternRefusal fnv1a djb2 suffixHash prefixOf idOf isOf find leastOf refilled spend isExpired holdsBucket newcomer decide qosOk ruleFine equalRule firstRule covered shadowedAfter severityOf hashOf kindsOf raise raiseAll fresh addRefusal addedTo addRule rulingOf gateAfter gateOf applied inspectRefusal inspectWith seenOf spentOf fedOf denialOf planFrom planOf every wellFormed rateOf reaches hub publish isAmong arrived
+facts =
+    record {
+      reached = refl;
+      one-rate = next (λ _. refl) (next (λ _. refl) (next (λ _. refl) done));
+      few = omega arith;
+      none = refl;
+      first = refl;
+      second = refl;
+      quiet = refl;
+    }
+
+-- our own runs and counts are those of specs/Run.antt
+after-ours : (m : MqttMonitor) (cs : List Call) → afterBy (answer portMatches) m cs ≡ after portMatches m cs
+unfolding afterBy after
+after-ours m [] = refl
+after-ours m (c ∷ cs) = after-ours (answer portMatches m c .monitor) cs
+
+passed-ours : {p m : MqttMonitor} → Like p m → (x : Id) (cs : List Call) → passedBy (answer portMatches) p m x cs ≡ allowedOf portMatches m x cs
+unfolding passedBy allowedOf reaches
+passed-ours k x [] = refl
+passed-ours k x (c ∷ cs) = rw (rate-like portMatches k c, passed-ours (on portMatches k c) x cs)
+
+ours : UpperBy (answer portMatches) × LowerBy (answer portMatches)
+ours = (
+  λ p q x R before between a z o r ra rz.
+      let k : Like p (after portMatches p before) = on-run portMatches (begin q (formed-there portMatches p x a ra)) before in
+      rw (after-ours p before, passed-ours k x (a ∷ between ++ z ∷ [])) (upper portMatches p q x R before between a z o r ra rz),
+  λ p q x before z o h s rz. rw (after-ours p before) (lower-first portMatches p q x before z o h s rz),
+)
+
+denies-everything : (f : Monitor) → LowerBy f → ¬ ((m : MqttMonitor) (c : Call) → passes f m c ≡ false)
+denies-everything f low all =
+    false≢true (sym (all _ message) ∙ low (hub 2) (hub-prepared 2) (idOf (bytes "m/a")) [] message (single message) (facts .few) done (facts .reached))
+
+in-order : InOrder (message ∷ message ∷ message ∷ [])
+unfolding publish
+in-order = let h : 0 ≤ 0 = omega arith in later h (later h (single message))
+
+module _ (f : Monitor) (all : (m : MqttMonitor) (c : Call) → passes f m c ≡ true) where
+  -- one message more is one passed more
+  counts : (m : MqttMonitor) (cs : List Call)
+      → passedBy f (hub 2) m (idOf (bytes "m/a")) (message ∷ cs) ≡ 1 + passedBy f (hub 2) (f m message .monitor) (idOf (bytes "m/a")) cs
+  unfolding passedBy
+  counts m cs = rw (facts .reached, all m message)
+
+  too-many : (m : MqttMonitor) → 3 ≤ passedBy f (hub 2) m (idOf (bytes "m/a")) (message ∷ message ∷ message ∷ [])
+  too-many m = rw (counts m, counts (f m message .monitor), counts (f (f m message .monitor) message .monitor)) (omega arith)
+
+allows-everything : (f : Monitor) → UpperBy f → ¬ ((m : MqttMonitor) (c : Call) → passes f m c ≡ true)
+unfolding afterBy publish
+allows-everything f up all =
+    let h = up (hub 2) (hub-prepared 2) (idOf (bytes "m/a")) 2 [] (message ∷ []) message message in-order (facts .one-rate) (facts .reached) (facts .reached) in
+    omega (arith, h, too-many f all (hub 2))
+
+moved : (m n : MqttMonitor) → m ≡ n → m .«total_inspected» ≡ n .«total_inspected»
+moved m n e = ap (λ (s : MqttMonitor). s .«total_inspected») e
+
+never-moves : (f : Monitor) → Meets f → ¬ ((m : MqttMonitor) (c : Call) → f m c .monitor ≡ m)
+never-moves f meets h =
+    let e : answer portMatches (hub 2) message .monitor ≡ hub 2 = sym (ap (λ (r : Inspected). r .monitor) (meets (hub 2) message)) ∙ h (hub 2) message in
+    omega (arith, facts .none, facts .first, moved _ _ e)
+
+first-only : (f : Monitor) → Meets f → ¬ ((m : MqttMonitor) (c d : Call) → f (f m c .monitor) d .monitor ≡ f m c .monitor)
+first-only f meets h =
+    let s : MqttMonitor = f (hub 2) message .monitor in
+    let e : answer portMatches s message .monitor ≡ s = sym (ap (λ (r : Inspected). r .monitor) (meets s message)) ∙ h (hub 2) message message in
+    let g : s ≡ answer portMatches (hub 2) message .monitor = ap (λ (r : Inspected). r .monitor) (meets (hub 2) message) in
+    omega (arith, facts .first, facts .second, moved _ _ (rw g at e))
+
+-- the standard matcher's yes
+abbrev isYes : StandardMatch → Bool
+isYes Yes = true
+isYes No = false
+isYes OutsideDomain = false
+
+-- replies of the two matchers that differ
+record Replies : Type 0 where
+  yes : portMatches (bytes "a") (bytes "a") ≡ true
+  no : portMatches (bytes "b") (bytes "a") ≡ false
+  yes-standard : isYes (standardMatches (bytes "a") (bytes "a")) ≡ true
+  no-standard : isYes (standardMatches (bytes "b") (bytes "a")) ≡ false
+
+replies : Replies
+unfolding bytes matchBytes fromSlash takesNone takesEnd firstLevel restLevels same has wellPlaced countOf patternRefusal matchLevels standardRule standardMatches
+replies = record { yes = refl; no = refl; yes-standard = refl; no-standard = refl }
+
+one-reply : (g : Matcher) → ((t p : List ℕ) → g t p ≡ portMatches t p) → (b : Bool) → ¬ ((t p : List ℕ) → g t p ≡ b)
+one-reply g meets b h =
+    false≢true
+    (sym (replies .no) ∙ sym (meets (bytes "b") (bytes "a")) ∙ h (bytes "b") (bytes "a") ∙ sym (h (bytes "a") (bytes "a")) ∙ meets (bytes "a") (bytes "a") ∙ replies .yes)
+
+one-reply-standard : (g : List ℕ → List ℕ → StandardMatch) → ((t p : List ℕ) → g t p ≡ standardMatches t p) → (b : StandardMatch) → ¬ ((t p : List ℕ) → g t p ≡ b)
+one-reply-standard g meets b h =
+    let yes : standardMatches (bytes "a") (bytes "a") ≡ b = sym (meets (bytes "a") (bytes "a")) ∙ h (bytes "a") (bytes "a") in
+    let no : standardMatches (bytes "b") (bytes "a") ≡ b = sym (meets (bytes "b") (bytes "a")) ∙ h (bytes "b") (bytes "a") in
+    false≢true (sym (replies .no-standard) ∙ ap isYes (no ∙ sym yes) ∙ replies .yes-standard)
+
+invented-alert : (f : Monitor) → Meets f → ¬ ((m : MqttMonitor) (c : Call) → 0 < f m c .result .«alert_count»)
+invented-alert f meets h =
+    let e : f (hub 2) message .result .«alert_count» ≡ answer portMatches (hub 2) message .result .«alert_count» =
+    ap (λ (r : Inspected). r .result .«alert_count») (meets (hub 2) message) in
+    omega (arith, h (hub 2) message, e, facts .quiet)
+
+-- a monitor with one more rule, which the first covers
+abbrev shadowed : MqttMonitor
+shadowed = addRule (hub 2) (bytes "m/a") Allow Any 2 .monitor
+
+-- the count that an outcome hands back
+abbrev count : Outcome → ℕ
+count (Done n) = n
+count (Refused n) = 0
+
+shadows : (validateRules (hub 2) ≡ Done 0) × (validateRules shadowed ≡ Done 1)
+unfolding bytes matchBytes fromSlash takesNone takesEnd firstLevel restLevels same has wellPlaced countOf patternRefusal fnv1a djb2 suffixHash prefixOf idOf isOf find leastOf refilled spend isExpired holdsBucket newcomer decide qosOk ruleFine equalRule firstRule covered shadowedAfter severityOf hashOf kindsOf raise raiseAll fresh addRefusal addedTo addRule rulingOf gateAfter gateOf applied inspectRefusal inspectWith seenOf spentOf fedOf denialOf planFrom planOf every wellFormed rateOf reaches hub publish validateRules
+shadows = (refl, refl)
+
+invented-shadow : (v : MqttMonitor → Outcome) → ((m : MqttMonitor) → v m ≡ validateRules m) → (n : ℕ) → ¬ ((m : MqttMonitor) → v m ≡ Done n)
+invented-shadow v meets n h =
+    let none : 0 ≡ n = ap count (sym (shadows .0) ∙ sym (meets (hub 2)) ∙ h (hub 2)) in
+    let one : 1 ≡ n = ap count (sym (shadows .1) ∙ sym (meets shadowed) ∙ h shadowed) in
+    omega arith
+
+pub shut-out : ShutOut
+shut-out =
+    record {
+      ours = ours;
+      denies-everything = denies-everything;
+      allows-everything = allows-everything;
+      never-moves = never-moves;
+      first-only = first-only;
+      one-reply = one-reply;
+      one-reply-standard = one-reply-standard;
+      invented-alert = invented-alert;
+      invented-shadow = invented-shadow;
+    }

@@ -1,0 +1,25 @@
+-- The three runs, by computation. Assumes nothing.
+use mathlib.Core.Path.{refl}
+use Rattle.topics.specs.Hashes.{fnv1a, djb2, suffixHash}
+use Rattle.topics.specs.Levels.{firstLevel, restLevels, same, has}
+use Rattle.topics.specs.Matching.{fromSlash, takesNone, takesEnd, matchBytes}
+use Rattle.topics.specs.Patterns.{wellPlaced, countOf, patternRefusal}
+use Rattle.tables.specs.Buckets.{refilled, spend, isExpired, holdsBucket, newcomer, decide}
+use Rattle.tables.specs.Identity.{prefixOf, idOf, isOf}
+use Rattle.tables.specs.Rules.{qosOk, ruleFine, equalRule, firstRule, covered, shadowedAfter}
+use Rattle.tables.specs.Scan.{find, leastOf}
+use Rattle.monitor.specs.Alerts.{severityOf, hashOf, kindsOf, raise, raiseAll}
+use Rattle.monitor.specs.Calls.{fresh, addRefusal, addedTo, addRule}
+use Rattle.monitor.specs.Gate.{rulingOf, gateAfter, gateOf}
+use Rattle.monitor.specs.Inspect.{applied, inspectRefusal, inspectWith}
+use Rattle.monitor.specs.Plan.{seenOf, spentOf, fedOf, denialOf, planFrom, planOf}
+use Rattle.monitor.specs.State.{every, wellFormed}
+use Rattle.theorems.specs.Corners.{bytes}
+use Rattle.monitor.specs.Runs.{after}
+use Rattle.theorems.specs.Run.{rateOf, reaches, allowedOf}
+use Rattle.theorems.specs.Slips.{Slips}
+use Rattle.theorems.specs.Tight.{hub, publish, crowd}
+
+pub slips : Slips
+unfolding bytes matchBytes fromSlash takesNone takesEnd firstLevel restLevels same has wellPlaced countOf patternRefusal fnv1a djb2 suffixHash prefixOf idOf isOf find leastOf refilled spend isExpired holdsBucket newcomer decide qosOk ruleFine equalRule firstRule covered shadowedAfter severityOf hashOf kindsOf raise raiseAll fresh addRefusal addedTo addRule rulingOf gateAfter gateOf applied inspectRefusal inspectWith seenOf spentOf fedOf denialOf planFrom planOf every wellFormed after rateOf reaches allowedOf hub publish crowd
+slips = record { replaced = refl; expired = refl; capped = refl }

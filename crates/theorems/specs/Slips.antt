@@ -1,0 +1,29 @@
+-- Three runs at rate 1 on which the upper half of demand 3 leaves one message, and on which a limiter with a slip would allow two: so each slip breaks the upper half.
+-- bin/must-break puts each slip into the definitions and sees these runs fail. The proofs are in proofs/Slips.antt, by computation.
+-- Assumes nothing.
+use mathlib.Core.Path.{_≡_}
+use mathlib.Core.List.{List, [], _∷_, _++_}
+use Prim.Native.Nat.{ℕ}
+use Rattle.topics.specs.Matching.{portMatches}
+use Rattle.tables.specs.Identity.{idOf}
+use Rattle.theorems.specs.Corners.{bytes}
+use Rattle.monitor.specs.Runs.{Call, after}
+use Rattle.theorems.specs.Run.{allowedOf}
+use Rattle.theorems.specs.Tight.{hub, publish, device, crowd}
+
+-- the message that is counted, at a time
+abbrev pub own : ℕ → Call
+own t = publish (bytes "m/x") t
+
+-- how many of them are allowed in a run, after another run
+abbrev pub counted : List Call → List Call → ℕ
+counted before run = allowedOf portMatches (after portMatches (hub 1) before) (idOf (bytes "m/x")) run
+
+-- the three
+pub record Slips : Type 0 where
+  -- its bucket is replaced by one of 32 others, and its next message replaces another's: a replaced bucket starts with nothing
+  pub replaced : counted [] (own 0 ∷ crowd 32 0 ++ own 0 ∷ own 0 ∷ []) ≡ 1
+  -- the same 0.300001 seconds later: no bucket that was idle for so little gives way
+  pub expired : counted [] (own 0 ∷ crowd 31 0 ++ publish (device 31) 300001 ∷ own 300001 ∷ []) ≡ 1
+  -- after ten quiet seconds: what was earned beyond the capacity is lost
+  pub capped : counted (own 0 ∷ []) (own 10000000 ∷ own 10000000 ∷ []) ≡ 1
