@@ -23,7 +23,7 @@ use Rattle.monitor.specs.Runs.{after}
 use Rattle.theorems.specs.Run.{Prepared, made, rule, InOrder, single, later, done, next, rateOf, reaches, allowedOf, isAmong, arrived}
 use Rattle.theorems.specs.Tight.{hub, publish, busy, Met, crowd, Night}
 
-hub-prepared : (rate : ℕ) → Prepared (hub rate)
+pub hub-prepared : (rate : ℕ) → Prepared (hub rate)
 unfolding hub
 hub-prepared rate = rule (made Block) (bytes "m/+") Allow Any rate
 
