@@ -45,7 +45,7 @@ decimal-some n =
     (λ m. rw (decimal-more n m, length-append) (omega arith))
     (λ l. rw (decimal-one n l) (omega arith))
 
-decimal-short : (k n : ℕ) → n < 10 ^ suc k → length (decimal n) ≤ suc k
+pub decimal-short : (k n : ℕ) → n < 10 ^ suc k → length (decimal n) ≤ suc k
 decimal-short zero n h = rw (decimal-one n h) (omega arith)
 decimal-short (suc k) n h =
     by-le 10 n

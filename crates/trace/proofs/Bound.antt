@@ -1,0 +1,149 @@
+-- What a trace prints is at most `enough` bytes (`trace-enough`), so a buffer of that size never meets 28. A message that was read takes 44 bytes of the text or more, so a text of 65,536 bytes has at
+-- most 1,489 of them; each prints at most 528 bytes, and the closing lines at most 109. Assumes nothing.
+use Prim.Native.Nat.{ℕ, zero, suc, _+_, _-_, _*_, _^_, _≤_, _<_}
+use mathlib.Core.Path.{_≡_, refl}
+use mathlib.Core.Bool.{_&&_}
+use mathlib.Core.List.{List, [], _∷_}
+use native.Mathlib.Omega.{arith}
+use lib.Dec.{eqb, leb, ltb}
+use lib.ListN.{length, length-append}
+use borrow.Author.Tests.{eqb-true, leb-true, leb-false}
+use Rattle.topics.specs.Levels.{levels, has}
+use Rattle.topics.specs.Matching.{portMatches}
+use Rattle.topics.specs.Patterns.{wellPlaced, countOf, patternRefusal}
+use Rattle.lines.proofs.Cases.{by}
+use Rattle.tables.specs.declared.rules.QosPolicy.{QosPolicy}
+use Rattle.tables.specs.declared.rules.TopicAction.{TopicAction}
+use Rattle.monitor.specs.Calls.{fresh, isHeld, addRefusal, addedTo, addRule}
+use Rattle.monitor.specs.State.{wellFormed, numberOf}
+use Rattle.monitor.specs.declared.state.Called.{Called}
+use Rattle.monitor.specs.declared.state.MqttMonitor.{MqttMonitor}
+use Rattle.trace.specs.Groups.{openingOf, ruleAt, messageAt}
+use Rattle.trace.specs.Trace.{Sent, ruleInto, rulesInto, loadedFrom, loaded, messagesFrom, messagesOf, textFrom, traceText, enough}
+use Rattle.trace.specs.declared.run.Loaded.{Loaded}
+use Rattle.trace.proofs.RecordLaws.{closing-short}
+use Rattle.trace.proofs.GroupLaws.{opening-within, rule-within, message-within, message-further}
+use Rattle.trace.proofs.PlanBounds.{choose, Counted, applied-counted, result-short}
+
+-- the text of so many messages
+text-short : (xs : List Sent) (m : MqttMonitor) (n number line : ℕ) → Counted m → n + length xs ≤ 2 ^ 64 → number < 2 ^ 64 → line < 2 ^ 64 → length (textFrom m n xs number line) ≤ 528 * length xs + 109
+unfolding textFrom
+text-short [] m n number line c h a b = omega (arith, closing-short number line _ _ a b (c .inspected64) (c .total64))
+text-short (x ∷ xs) m n number line c h a b =
+    rw length-append
+    (omega (
+      arith,
+      result-short portMatches m (x .msg) (x .topic) (x .payload) c n (omega arith),
+      text-short xs _ (n + 1) number line (applied-counted portMatches m (x .msg) (x .topic) (x .payload) c) (omega arith) a b,
+    ))
+
+-- the messages from a place on: how many there are at most, and how they end
+pub sent-few : (k : ℕ) (s : List ℕ) (at line : ℕ) → (44 * length (messagesFrom k s at line .sent) ≤ length s - at) × (messagesFrom k s at line .number ≤ 26) × (messagesFrom k s at line .line ≤ line + 7 * length (messagesFrom k s at line .sent) + 7)
+unfolding messagesFrom
+sent-few zero s at line = (omega arith, omega arith, omega arith)
+sent-few (suc k) s at line =
+    let w = message-within s at refl in
+    by (leb (length s) at)
+    (λ t. rw t (omega arith, omega arith, omega arith))
+    (λ t.
+    let l : at < length s = leb-false _ _ t in
+    by (eqb (messageAt s at .number) 0)
+    (λ u.
+    let f = message-further s at (eqb-true _ _ u) in
+    let r = sent-few k s (messageAt s at .next) (line + 7) in
+    rw (t, u) (omega (arith, r), omega (arith, r), omega (arith, r)))
+    (λ u. rw (t, u) (omega arith, omega (arith, w .known), omega (arith, w .line))))
+
+add-counted : (m : MqttMonitor) (p : List ℕ) (action : TopicAction) (policy : QosPolicy) (rate : ℕ) → Counted m → Counted (addRule m p action policy rate .monitor)
+unfolding addRule addedTo
+add-counted m p action policy rate c =
+    choose (λ (x : Called). Counted (x .monitor)) (eqb (addRefusal m p) 0)
+    (choose Counted (isHeld m p)
+    (record { id64 = c .id64; inspected64 = c .inspected64; total64 = c .total64 })
+    (record { id64 = c .id64; inspected64 = c .inspected64; total64 = c .total64 }))
+    c
+
+pattern-known : (p : List ℕ) → patternRefusal p ≤ 27
+unfolding patternRefusal
+pattern-known p =
+    choose (λ (n : ℕ). n ≤ 27) (leb 1 (length p) && leb (length p) 64)
+    (choose (λ (n : ℕ). n ≤ 27) (has 0 p) (omega arith)
+    (choose (λ (n : ℕ). n ≤ 27) (leb (countOf 43 p) 3) (choose (λ (n : ℕ). n ≤ 27) (wellPlaced (levels p)) (omega arith) (omega arith)) (omega arith)))
+    (omega arith)
+
+refusal-known : (m : MqttMonitor) (p : List ℕ) → addRefusal m p ≤ 27
+unfolding addRefusal
+refusal-known m p =
+    choose (λ (n : ℕ). n ≤ 27) (wellFormed m)
+    (choose (λ (n : ℕ). n ≤ 27) (eqb (patternRefusal p) 0)
+    (choose (λ (n : ℕ). n ≤ 27) (isHeld m p) (omega arith) (choose (λ (n : ℕ). n ≤ 27) (ltb (m .«rule_count») 32) (omega arith) (omega arith)))
+    (pattern-known p))
+    (omega arith)
+
+add-known : (m : MqttMonitor) (p : List ℕ) (action : TopicAction) (policy : QosPolicy) (rate : ℕ) → numberOf (addRule m p action policy rate .outcome) ≤ 27
+unfolding addRule
+add-known m p action policy rate =
+    choose (λ (x : Called). numberOf (x .outcome) ≤ 27) (eqb (addRefusal m p) 0) (omega arith) (refusal-known m p)
+
+-- what was loaded, after at most so many lines
+pub record Few (l : Loaded) (lines : ℕ) : Type 0 where
+  pub counted : Counted (l .monitor)
+  pub known : l .number ≤ 27
+  pub line : l .line ≤ lines
+
+rule-few : (m : MqttMonitor) (s : List ℕ) (line at : ℕ) → Counted m → Few (ruleInto m s line (ruleAt s at)) (line + 4)
+unfolding ruleInto
+rule-few m s line at c =
+    let w = rule-within s at refl in
+    choose (λ (l : Loaded). Few l (line + 4)) (eqb (ruleAt s at .number) 0)
+    (record { counted = add-counted m _ _ _ _ c; known = add-known m _ _ _ _; line = omega arith })
+    (record { counted = c; known = omega (arith, w .known); line = omega (arith, w .line) })
+
+rules-few : (k : ℕ) (s : List ℕ) (l : Loaded) (lines : ℕ) → Few l lines → Few (rulesInto k s l) (lines + 4 * k)
+unfolding rulesInto
+rules-few zero s l lines f = record { counted = f .counted; known = f .known; line = omega (arith, f .line) }
+rules-few (suc k) s l lines f =
+    let r = rule-few (l .monitor) s (l .line) (l .next) (f .counted) in
+    let g = rules-few k s (ruleInto (l .monitor) s (l .line) (ruleAt s (l .next))) (l .line + 4) r in
+    choose (λ (x : Loaded). Few x (lines + 4 * suc k)) (eqb (l .number) 0)
+    (record { counted = g .counted; known = g .known; line = omega (arith, g .line, f .line) })
+    (record { counted = f .counted; known = f .known; line = omega (arith, f .line) })
+
+fresh-counted : (default : TopicAction) → Counted (fresh default)
+unfolding fresh
+fresh-counted default = record { id64 = omega arith; inspected64 = omega arith; total64 = omega arith }
+
+pub loaded-few : (s : List ℕ) → Few (loaded s) 130
+unfolding loaded loadedFrom
+loaded-few s =
+    let w = opening-within s refl in
+    choose (λ (l : Loaded). Few l 130) (leb (length s) 65536)
+    (choose (λ (l : Loaded). Few l 130) (eqb (openingOf s .number) 0)
+    (let r = rules-few (openingOf s .rules) s (record { number = 0; line = 2; next = openingOf s .next; monitor = fresh (openingOf s .«default_action») }) 2 (record { counted = fresh-counted _; known = omega arith; line = omega arith }) in
+    record { counted = r .counted; known = r .known; line = omega (arith, r .line, w .count) })
+    (record { counted = fresh-counted _; known = omega (arith, w .known); line = omega (arith, w .line) }))
+    (record { counted = fresh-counted _; known = omega arith; line = omega arith })
+
+-- a text that was loaded is not over 65,536 bytes
+pub loaded-short : (s : List ℕ) → loaded s .number ≡ 0 → length s ≤ 65536
+unfolding loaded
+loaded-short s e = by (leb (length s) 65536) (λ t. leb-true _ _ t) (λ t. absurd (let z : _≡_ {A = ℕ} 27 0 = rw t at e in omega arith))
+
+-- the messages of a trace: how many there are at most, and how they end
+pub messages-few : (s : List ℕ) → (44 * length (messagesOf s .sent) ≤ 65536) × (messagesOf s .number < 2 ^ 64) × (messagesOf s .line < 2 ^ 64)
+unfolding messagesOf
+messages-few s =
+    let f = loaded-few s in
+    by (eqb (loaded s .number) 0)
+    (λ t.
+    let l = loaded-short s (eqb-true _ _ t) in
+    let r = sent-few (length s + 1) s (loaded s .next) (loaded s .line) in
+    rw t (omega (arith, r), omega (arith, r), omega (arith, r, f .line)))
+    (λ t. rw t (omega arith, omega (arith, f .known), omega (arith, f .line)))
+
+-- what any trace prints fits into a buffer of that size
+pub trace-enough : (s : List ℕ) → length (traceText s) ≤ enough
+unfolding traceText
+trace-enough s =
+    let r = messages-few s in
+    omega (arith, text-short (messagesOf s .sent) (loaded s .monitor) 1 (messagesOf s .number) (messagesOf s .line) (loaded-few s .counted) (omega (arith, r)) (r .1) (r .2))

@@ -1,0 +1,9 @@
+pub mod Bound
+pub mod BufferLaws
+pub mod GroupLaws
+pub mod Inspected
+pub mod LineBounds
+pub mod LoadLaws
+pub mod PlanBounds
+pub mod RecordLaws
+pub mod RunLaws

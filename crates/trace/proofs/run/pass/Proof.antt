@@ -1,0 +1,200 @@
+-- `trace::run::pass` meets its contract. The invariant: what the messages left print, from the place in the buffer on, completes what the whole trace prints (RunLaws, `Going`), and the two buffers keep
+-- their lengths; the measure: the bytes of the text that are left. Assumes nothing.
+use Prim.Native.Nat.{_-_}
+use mathlib.Core.Logic.{⊎-elim}
+use mathlib.Core.Path.{_≡_, sym, ap, _∙_}
+use native.Mathlib.Omega.{arith}
+use lib.ListN.{length}
+use lib.Seq.{length-take-le}
+use borrow.Author.Needs.{needs}
+use Rattle.monitor.specs.Inspect.{storedAt}
+use Rattle.monitor.proofs.ApplyLaws.{stored-yes, stored-no, withClients, withBuckets, withTrackers, stored-all}
+use Rattle.trace.proofs.BufferLaws.{topic-part, payload-part}
+use Rattle.trace.proofs.RunLaws.{Going, going-start, going-small, turn-room, going-turn, close-room, close-end, close-bytes, left-end, left-stop, plan-sent, read-further, unloaded-text, unloaded-end}
+use Rattle.trace.proofs.run.pass.Statement.{statement}
+use Rattle.trace.proofs.run.pass.Tie as tie
+
+abbrev Inv-loop : tie.InvT-loop
+Inv-loop text out₀ write m₀ at₀ line₀ topic₀ payload₀ n₀ p₀ out m at line topic payload n p = Going text write out₀ out m n at line p × (length topic ≡ 128) × (length payload ≡ 256)
+
+abbrev μ-loop : tie.MeasureT-loop
+μ-loop text out₀ write m₀ at₀ line₀ topic₀ payload₀ n₀ p₀ out m at line topic payload n p = length text - at
+
+load-requires : tie.Need-load-requires Inv-loop μ-loop
+load-requires c κs = search needs
+
+pass-closing-requires : tie.Need-pass-closing-requires Inv-loop μ-loop
+pass-closing-requires c κs = (omega arith, λ w. omega (arith, c .before .before .before .before .before .before .before .pre w, ap length (unloaded-text _ (c .before .before .before .before .load .ensures) (c .before .if1 .taken))))
+
+same-length : tie.Need-same-length Inv-loop μ-loop
+same-length c = c .before .before .pass-closing .kept .0
+
+returns : tie.Need-returns Inv-loop μ-loop
+returns c = (unloaded-end _ (c .before .before .before .before .before .before .before .load .ensures) (c .before .before .before .before .if1 .taken) (c .before .before .pass-closing .ensures .0), rw (unloaded-text _ (c .before .before .before .before .before .before .before .load .ensures) (c .before .before .before .before .if1 .taken)) (c .before .before .pass-closing .ensures .1))
+
+buffer-128-requires : tie.Need-buffer-128-requires Inv-loop μ-loop
+buffer-128-requires c κs = search needs
+
+buffer-256-requires : tie.Need-buffer-256-requires Inv-loop μ-loop
+buffer-256-requires c κs = search needs
+
+loop-holds : tie.Need-loop-holds Inv-loop μ-loop
+loop-holds c = (going-start _ _ _ (c .before .before .before .before .before .load .ensures) (c .before .before .if1 .left), c .before .buffer-128 .ensures, c .buffer-256 .ensures)
+
+read-message-requires : tie.Need-read-message-requires Inv-loop μ-loop
+read-message-requires c κs = search needs
+
+add-pass-closing : tie.Need-add-pass-closing Inv-loop μ-loop
+add-pass-closing c = omega (arith, c .before .before .before .before .before .before .before .loop .inv .0 .lines, c .before .before .before .before .before .before .before .loop .inv .0 .short, c .before .before .before .before .before .before .loop-test .taken, c .before .before .before .read-message .ensures .1 .0 .line)
+
+cast-pass-closing : tie.Need-cast-pass-closing Inv-loop μ-loop
+cast-pass-closing c = omega (arith, c .before .before .before .before .before .before .before .before .loop .inv .0 .lines, c .before .before .before .before .before .before .before .before .loop .inv .0 .short, c .before .before .before .before .before .before .before .loop-test .taken, c .before .before .before .before .read-message .ensures .1 .0 .line)
+
+add-pass-closing-2 : tie.Need-add-pass-closing-2 Inv-loop μ-loop
+add-pass-closing-2 c = omega (arith, c .before .before .before .before .before .before .before .before .loop .inv .0 .lines, c .before .before .before .before .before .before .before .before .loop .inv .0 .short, c .before .before .before .before .before .before .before .loop-test .taken, c .before .before .before .before .read-message .ensures .1 .0 .line)
+
+pass-closing-requires-2 : tie.Need-pass-closing-requires-2 Inv-loop μ-loop
+pass-closing-requires-2 c κs = (going-small (c .before .before .before .before .before .before .before .before .loop .inv .0), close-room (c .before .before .before .before .before .before .before .before .loop .inv .0) (c .before .before .before .before .before .before .before .before .before .before .before .before .before .before .before .before .before .pre) (left-stop _ (c .before .before .before .before .before .before .before .before .loop .line) (c .before .before .before .before .before .before .before .loop-test .taken) (c .before .before .before .before .read-message .ensures .0) (c .before .before .if2 .taken)))
+
+same-length-2 : tie.Need-same-length-2 Inv-loop μ-loop
+same-length-2 c = c .before .before .pass-closing2 .kept .0 ∙ c .before .before .before .before .before .before .before .before .before .before .before .loop .inv .0 .long
+
+returns-2 : tie.Need-returns-2 Inv-loop μ-loop
+returns-2 c = (close-end (c .before .before .before .before .before .before .before .before .before .before .before .loop .inv .0) (c .before .before .before .before .before .before .before .before .before .before .before .before .before .before .before .before .before .before .before .before .pre) (left-stop _ (c .before .before .before .before .before .before .before .before .before .before .before .loop .line) (c .before .before .before .before .before .before .before .before .before .before .loop-test .taken) (c .before .before .before .before .before .before .before .read-message .ensures .0) (c .before .before .before .before .before .if2 .taken)) (c .before .before .pass-closing2 .ensures .0), close-bytes (c .before .before .before .before .before .before .before .before .before .before .before .loop .inv .0) (c .before .before .before .before .before .before .before .before .before .before .before .before .before .before .before .before .before .before .before .before .pre) (left-stop _ (c .before .before .before .before .before .before .before .before .before .before .before .loop .line) (c .before .before .before .before .before .before .before .before .before .before .loop-test .taken) (c .before .before .before .before .before .before .before .read-message .ensures .0) (c .before .before .before .before .before .if2 .taken)) (c .before .before .pass-closing2 .ensures .1))
+
+cast-topic-len : tie.Need-cast-topic-len Inv-loop μ-loop
+cast-topic-len c = search needs
+
+cast-payload-len : tie.Need-cast-payload-len Inv-loop μ-loop
+cast-payload-len c = search needs
+
+array-share-prefix-topic : tie.Need-array-share-prefix-topic Inv-loop μ-loop
+array-share-prefix-topic c = topic-part _ _ _ (c .before .before .before .before .before .read-message .ensures .0) (c .before .before .before .if2 .left) (c .before .before .before .before .before .before .before .before .before .loop .inv .1) (c .before .before .before .before .before .read-message .ensures .1 .1 .0) .1
+
+slice-aggregate-plan-for : tie.Need-slice-aggregate-plan-for Inv-loop μ-loop
+slice-aggregate-plan-for c = sym (length-take-le _ _ (topic-part _ _ _ (c .before .before .before .before .before .before .read-message .ensures .0) (c .before .before .before .before .if2 .left) (c .before .before .before .before .before .before .before .before .before .before .loop .inv .1) (c .before .before .before .before .before .before .read-message .ensures .1 .1 .0) .1))
+
+array-share-prefix-payload : tie.Need-array-share-prefix-payload Inv-loop μ-loop
+array-share-prefix-payload c = payload-part _ _ _ (c .before .before .before .before .before .before .read-message .ensures .0) (c .before .before .before .before .if2 .left) (c .before .before .before .before .before .before .before .before .before .before .loop .inv .2) (c .before .before .before .before .before .before .read-message .ensures .1 .1 .1) .1
+
+slice-aggregate-plan-for-2 : tie.Need-slice-aggregate-plan-for-2 Inv-loop μ-loop
+slice-aggregate-plan-for-2 c = sym (length-take-le _ _ (payload-part _ _ _ (c .before .before .before .before .before .before .before .read-message .ensures .0) (c .before .before .before .before .before .if2 .left) (c .before .before .before .before .before .before .before .before .before .before .before .loop .inv .2) (c .before .before .before .before .before .before .before .read-message .ensures .1 .1 .1) .1))
+
+plan-for-requires : tie.Need-plan-for-requires Inv-loop μ-loop
+plan-for-requires c κs = search needs
+
+count-on-requires : tie.Need-count-on-requires Inv-loop μ-loop
+count-on-requires c κs = search needs
+
+mul-entry : tie.Need-mul-entry Inv-loop μ-loop
+mul-entry c = search needs
+
+element-set-from-entry : tie.Need-element-set-from-entry Inv-loop μ-loop
+element-set-from-entry c = search needs
+
+mul-bucket : tie.Need-mul-bucket Inv-loop μ-loop
+mul-bucket c = search needs
+
+element-set-from-bucket : tie.Need-element-set-from-bucket Inv-loop μ-loop
+element-set-from-bucket c = search needs
+
+mul-tracker : tie.Need-mul-tracker Inv-loop μ-loop
+mul-tracker c = search needs
+
+element-set-from-tracker : tie.Need-element-set-from-tracker Inv-loop μ-loop
+element-set-from-tracker c = search needs
+
+-- the state after each store, where the ways from its test meet
+client-is : (c : tie.Joined3 Inv-loop μ-loop) → c .if3 .m ≡ withClients (c .before .before .before .before .before .before .before .before .before .before .before .before .before .before .before .loop .m) (storedAt 16 (c .before .before .before .before .before .before .before .before .before .before .before .before .before .before .before .loop .m .«client_hashes») (c .before .before .before .plan-for .result .seen .at) (c .before .before .before .plan-for .result .seen .entry))
+client-is c =
+    let m = c .before .before .before .before .before .before .before .before .before .before .before .before .before .before .before .loop .m in
+    let d = c .before .before .before .plan-for .result .seen in
+    ⊎-elim
+    (λ w. stored-yes (withClients m) 16 (m .«client_hashes») (d .at) (d .entry) (w .0 .taken) (w .2))
+    (λ w. stored-no (withClients m) 16 (m .«client_hashes») (d .at) (d .entry) (w .0 .left) (w .1))
+    (c .if3 .came)
+
+bucket-is : (c : tie.Joined4 Inv-loop μ-loop) → c .if4 .m ≡ withBuckets (c .before .before .if3 .m) (storedAt 32 (c .before .before .if3 .m .«rate_buckets») (c .before .before .before .before .before .plan-for .result .spent .at) (c .before .before .before .before .before .plan-for .result .spent .bucket))
+bucket-is c =
+    let m = c .before .before .if3 .m in
+    let d = c .before .before .before .before .before .plan-for .result .spent in
+    ⊎-elim
+    (λ w. stored-yes (withBuckets m) 32 (m .«rate_buckets») (d .at) (d .bucket) (w .0 .taken) (w .2))
+    (λ w. stored-no (withBuckets m) 32 (m .«rate_buckets») (d .at) (d .bucket) (w .0 .left) (w .1))
+    (c .if4 .came)
+
+tracker-is : (c : tie.Joined5 Inv-loop μ-loop) → c .if5 .m ≡ withTrackers (c .before .before .if4 .m) (storedAt 16 (c .before .before .if4 .m .«ewma_trackers») (c .before .before .before .before .before .before .before .plan-for .result .fed .at) (c .before .before .before .before .before .before .before .plan-for .result .fed .tracker))
+tracker-is c =
+    let m = c .before .before .if4 .m in
+    let d = c .before .before .before .before .before .before .before .plan-for .result .fed in
+    ⊎-elim
+    (λ w. stored-yes (withTrackers m) 16 (m .«ewma_trackers») (d .at) (d .tracker) (w .0 .taken) (w .2))
+    (λ w. stored-no (withTrackers m) 16 (m .«ewma_trackers») (d .at) (d .tracker) (w .0 .left) (w .1))
+    (c .if5 .came)
+
+pass-record-requires : tie.Need-pass-record-requires Inv-loop μ-loop
+pass-record-requires c κs = (going-small (c .before .before .before .before .before .before .before .before .before .before .before .before .before .before .before .before .before .before .before .before .before .before .loop .inv .0), turn-room (c .before .before .before .before .before .before .before .before .before .before .before .before .before .before .before .before .before .before .before .before .before .before .loop .inv .0) (c .before .before .before .before .before .before .before .before .before .before .before .before .before .before .before .before .before .before .before .before .before .before .before .before .before .before .before .before .before .before .before .pre) (c .before .before .before .before .before .before .before .before .before .before .before .before .before .before .before .before .before .before .before .before .before .loop-test .taken) (c .before .before .before .before .before .before .before .before .before .before .before .before .before .before .before .before .before .before .read-message .ensures .0) (c .before .before .before .before .before .before .before .before .before .before .before .before .before .before .before .before .if2 .left) (plan-sent _ _ _ (c .before .before .before .before .before .before .before .before .before .before .before .before .before .before .before .before .before .before .read-message .ensures .0) (topic-part _ _ _ (c .before .before .before .before .before .before .before .before .before .before .before .before .before .before .before .before .before .before .read-message .ensures .0) (c .before .before .before .before .before .before .before .before .before .before .before .before .before .before .before .before .if2 .left) (c .before .before .before .before .before .before .before .before .before .before .before .before .before .before .before .before .before .before .before .before .before .before .loop .inv .1) (c .before .before .before .before .before .before .before .before .before .before .before .before .before .before .before .before .before .before .read-message .ensures .1 .1 .0) .0) (payload-part _ _ _ (c .before .before .before .before .before .before .before .before .before .before .before .before .before .before .before .before .before .before .read-message .ensures .0) (c .before .before .before .before .before .before .before .before .before .before .before .before .before .before .before .before .if2 .left) (c .before .before .before .before .before .before .before .before .before .before .before .before .before .before .before .before .before .before .before .before .before .before .loop .inv .2) (c .before .before .before .before .before .before .before .before .before .before .before .before .before .before .before .before .before .before .read-message .ensures .1 .1 .1) .0) (c .before .before .before .before .before .before .before .before .before .before .plan-for .ensures)))
+
+add-line : tie.Need-add-line Inv-loop μ-loop
+add-line c = omega (arith, c .before .before .before .before .before .before .before .before .before .before .before .before .before .before .before .before .before .before .before .before .before .before .before .before .before .loop .inv .0 .lines, c .before .before .before .before .before .before .before .before .before .before .before .before .before .before .before .before .before .before .before .before .before .before .before .before .before .loop .inv .0 .short, c .before .before .before .before .before .before .before .before .before .before .before .before .before .before .before .before .before .before .before .before .before .before .before .before .loop-test .taken)
+
+add-n : tie.Need-add-n Inv-loop μ-loop
+add-n c = omega (arith, c .before .before .before .before .before .before .before .before .before .before .before .before .before .before .before .before .before .before .before .before .before .before .before .before .before .loop .inv .0 .ordinal, c .before .before .before .before .before .before .before .before .before .before .before .before .before .before .before .before .before .before .before .before .before .before .before .before .before .loop .inv .0 .short, c .before .before .before .before .before .before .before .before .before .before .before .before .before .before .before .before .before .before .before .before .before .before .before .before .loop-test .taken)
+
+loop-less : tie.Need-loop-less Inv-loop μ-loop
+loop-less c = omega (arith, c .before .before .before .before .before .before .before .before .before .before .before .before .before .before .before .before .before .before .before .before .before .before .before .before .loop-test .taken, read-further (c .before .before .before .before .before .before .before .before .before .before .before .before .before .before .before .before .before .before .before .before .before .before .before .before .before .before .before .before .before .before .before .before .before .before .args .text .now) (c .before .before .before .before .before .before .before .before .before .before .before .before .before .before .before .before .before .before .before .before .before .before .before .before .before .loop .at) (c .before .before .before .before .before .before .before .before .before .before .before .before .before .before .before .before .before .before .before .before .before .read-message .ensures .0) (c .before .before .before .before .before .before .before .before .before .before .before .before .before .before .before .before .before .before .before .if2 .left))
+
+loop-again : tie.Need-loop-again Inv-loop μ-loop
+loop-again c = (going-turn (c .before .before .before .before .before .before .before .before .before .before .before .before .before .before .before .before .before .before .before .before .before .before .before .before .before .loop .inv .0) (c .before .before .before .before .before .before .before .before .before .before .before .before .before .before .before .before .before .before .before .before .before .before .before .before .before .before .before .before .before .before .before .before .before .before .pre) (c .before .before .before .before .before .before .before .before .before .before .before .before .before .before .before .before .before .before .before .before .before .before .before .before .loop-test .taken) (c .before .before .before .before .before .before .before .before .before .before .before .before .before .before .before .before .before .before .before .before .before .read-message .ensures .0) (c .before .before .before .before .before .before .before .before .before .before .before .before .before .before .before .before .before .before .before .if2 .left) (plan-sent _ _ _ (c .before .before .before .before .before .before .before .before .before .before .before .before .before .before .before .before .before .before .before .before .before .read-message .ensures .0) (topic-part _ _ _ (c .before .before .before .before .before .before .before .before .before .before .before .before .before .before .before .before .before .before .before .before .before .read-message .ensures .0) (c .before .before .before .before .before .before .before .before .before .before .before .before .before .before .before .before .before .before .before .if2 .left) (c .before .before .before .before .before .before .before .before .before .before .before .before .before .before .before .before .before .before .before .before .before .before .before .before .before .loop .inv .1) (c .before .before .before .before .before .before .before .before .before .before .before .before .before .before .before .before .before .before .before .before .before .read-message .ensures .1 .1 .0) .0) (payload-part _ _ _ (c .before .before .before .before .before .before .before .before .before .before .before .before .before .before .before .before .before .before .before .before .before .read-message .ensures .0) (c .before .before .before .before .before .before .before .before .before .before .before .before .before .before .before .before .before .before .before .if2 .left) (c .before .before .before .before .before .before .before .before .before .before .before .before .before .before .before .before .before .before .before .before .before .before .before .before .before .loop .inv .2) (c .before .before .before .before .before .before .before .before .before .before .before .before .before .before .before .before .before .before .before .before .before .read-message .ensures .1 .1 .1) .0) (c .before .before .before .before .before .before .before .before .before .before .before .before .before .plan-for .ensures)) (stored-all _ _ (client-is (c .before .before .before .before .before .before .before .before .before .before)) (bucket-is (c .before .before .before .before .before .before .before .before)) (tracker-is (c .before .before .before .before .before .before)) (c .before .before .before .before .before .before .before .before .before .before .before .before .count-on .ensures)) (c .before .before .pass-record .ensures .0) (c .before .before .pass-record .ensures .1), topic-part _ _ _ (c .before .before .before .before .before .before .before .before .before .before .before .before .before .before .before .before .before .before .before .before .before .read-message .ensures .0) (c .before .before .before .before .before .before .before .before .before .before .before .before .before .before .before .before .before .before .before .if2 .left) (c .before .before .before .before .before .before .before .before .before .before .before .before .before .before .before .before .before .before .before .before .before .before .before .before .before .loop .inv .1) (c .before .before .before .before .before .before .before .before .before .before .before .before .before .before .before .before .before .before .before .before .before .read-message .ensures .1 .1 .0) .2, payload-part _ _ _ (c .before .before .before .before .before .before .before .before .before .before .before .before .before .before .before .before .before .before .before .before .before .read-message .ensures .0) (c .before .before .before .before .before .before .before .before .before .before .before .before .before .before .before .before .before .before .before .if2 .left) (c .before .before .before .before .before .before .before .before .before .before .before .before .before .before .before .before .before .before .before .before .before .before .before .before .before .loop .inv .2) (c .before .before .before .before .before .before .before .before .before .before .before .before .before .before .before .before .before .before .before .before .before .read-message .ensures .1 .1 .1) .2)
+
+pass-closing-requires-3 : tie.Need-pass-closing-requires-3 Inv-loop μ-loop
+pass-closing-requires-3 c κs = (going-small (c .before .before .loop .inv .0), close-room (c .before .before .loop .inv .0) (c .before .before .before .before .before .before .before .before .before .before .before .pre) (left-end (c .before .before .before .before .before .before .before .before .before .before .before .args .text .now) (c .before .before .loop .line) (c .before .loop-test .left)))
+
+same-length-3 : tie.Need-same-length-3 Inv-loop μ-loop
+same-length-3 c = c .before .before .pass-closing3 .kept .0 ∙ c .before .before .before .before .before .loop .inv .0 .long
+
+returns-3 : tie.Need-returns-3 Inv-loop μ-loop
+returns-3 c = (close-end (c .before .before .before .before .before .loop .inv .0) (c .before .before .before .before .before .before .before .before .before .before .before .before .before .before .pre) (left-end (c .before .before .before .before .before .before .before .before .before .before .before .before .before .before .args .text .now) (c .before .before .before .before .before .loop .line) (c .before .before .before .before .loop-test .left)) (c .before .before .pass-closing3 .ensures .0), close-bytes (c .before .before .before .before .before .loop .inv .0) (c .before .before .before .before .before .before .before .before .before .before .before .before .before .before .pre) (left-end (c .before .before .before .before .before .before .before .before .before .before .before .before .before .before .args .text .now) (c .before .before .before .before .before .loop .line) (c .before .before .before .before .loop-test .left)) (c .before .before .pass-closing3 .ensures .1))
+
+pub pass-spec : {M : Type 1} → statement M
+pass-spec =
+    tie.close
+    (tie.spec
+    Inv-loop
+    μ-loop
+    load-requires
+    pass-closing-requires
+    same-length
+    returns
+    buffer-128-requires
+    buffer-256-requires
+    loop-holds
+    read-message-requires
+    add-pass-closing
+    cast-pass-closing
+    add-pass-closing-2
+    pass-closing-requires-2
+    same-length-2
+    returns-2
+    cast-topic-len
+    cast-payload-len
+    array-share-prefix-topic
+    slice-aggregate-plan-for
+    array-share-prefix-payload
+    slice-aggregate-plan-for-2
+    plan-for-requires
+    count-on-requires
+    mul-entry
+    element-set-from-entry
+    mul-bucket
+    element-set-from-bucket
+    mul-tracker
+    element-set-from-tracker
+    pass-record-requires
+    add-line
+    add-n
+    loop-less
+    loop-again
+    pass-closing-requires-3
+    same-length-3
+    returns-3)

@@ -1,0 +1,125 @@
+-- Document 01, "The trace": a whole trace. It is an opening with its rules, a list of messages, and an end; the text that goes out is a fold over that list.
+-- Assumes nothing.
+use mathlib.Core.Bool.{Bool, cond}
+use mathlib.Core.List.{List, [], _∷_, _++_}
+use Prim.Native.Nat.{ℕ, zero, suc, _+_}
+use lib.Dec.{eqb, leb}
+use lib.ListN.{length}
+use lib.Seq.{sets}
+use Rattle.topics.specs.Matching.{portMatches}
+use Rattle.monitor.specs.Calls.{fresh, addRule}
+use Rattle.monitor.specs.Inspect.{applied, resultOf}
+use Rattle.monitor.specs.Plan.{planOf}
+use Rattle.monitor.specs.State.{numberOf}
+use Rattle.monitor.specs.declared.message.MqttMessage.{MqttMessage}
+use Rattle.monitor.specs.declared.plan.Plan.{Plan}
+use Rattle.monitor.specs.declared.state.MqttMonitor.{MqttMonitor}
+use Rattle.tables.specs.declared.rules.TopicAction.the-variants.{Allow}
+use Rattle.trace.specs.Groups.{openingOf, ruleAt, patternIn, messageAt, topicIn, payloadIn}
+use Rattle.trace.specs.Record.{recordText, closingText}
+use Rattle.trace.specs.declared.groups.OpeningLines.{OpeningLines}
+use Rattle.trace.specs.declared.groups.RuleLines.{RuleLines}
+use Rattle.trace.specs.declared.run.Loaded.{Loaded}
+use Rattle.trace.specs.declared.run.TraceEnd.{TraceEnd}
+
+-- a message with its topic and payload
+pub record Sent : Type 0 where
+  pub msg : MqttMessage
+  pub topic : List ℕ
+  pub payload : List ℕ
+
+-- the messages of a trace, and how it ended: number and line
+pub record Messages : Type 0 where
+  pub sent : List Sent
+  pub number : ℕ
+  pub line : ℕ
+
+-- the rules were not loaded
+abbrev pub notLoaded : ℕ → ℕ → ℕ → MqttMonitor → Loaded
+notLoaded number line next m = record { number = number; line = line; next = next; monitor = m }
+
+-- a rule that was read after `line` lines, added: a refusal stands at its `rate=` line
+unfoldable pub ruleInto : MqttMonitor → List ℕ → ℕ → RuleLines → Loaded
+ruleInto m s line r =
+    cond (eqb (r .number) 0)
+    (record {
+      number = numberOf (addRule m (patternIn s r) (r .action) (r .«qos_policy») (r .rate) .outcome);
+      line = line + 4;
+      next = r .next;
+      monitor = addRule m (patternIn s r) (r .action) (r .«qos_policy») (r .rate) .monitor;
+    })
+    (notLoaded (r .number) (line + 1 + r .line) (r .next) m)
+
+-- so many rules more: `l` is what was loaded before them
+unfoldable pub rulesInto : ℕ → List ℕ → Loaded → Loaded
+rulesInto zero s l = l
+rulesInto (suc k) s l = cond (eqb (l .number) 0) (rulesInto k s (ruleInto (l .monitor) s (l .line) (ruleAt s (l .next)))) l
+
+-- the opening and its rules: a fresh monitor with them, or where it stopped
+unfoldable pub loadedFrom : List ℕ → OpeningLines → Loaded
+loadedFrom s o =
+    cond (eqb (o .number) 0)
+    (rulesInto (o .rules) s (record { number = 0; line = 2; next = o .next; monitor = fresh (o .«default_action») }))
+    (notLoaded (o .number) (1 + o .line) (o .next) (fresh (o .«default_action»)))
+
+-- 27 for input over 65,536 bytes is tested first, line 0
+unfoldable pub loaded : List ℕ → Loaded
+loaded s = cond (leb (length s) 65536) (loadedFrom s (openingOf s)) (notLoaded 27 0 0 (fresh Allow))
+
+-- no more messages
+abbrev pub endedBy : ℕ → ℕ → Messages
+endedBy number line = record { sent = []; number = number; line = line }
+
+-- one message more in front
+abbrev pub sentFirst : Sent → Messages → Messages
+sentFirst x ms = record { sent = x ∷ ms .sent; number = ms .number; line = ms .line }
+
+-- the messages from a place to the end of the text, `line` lines being read; there are fewer of them than bytes, which is the first number
+unfoldable pub messagesFrom : ℕ → List ℕ → ℕ → ℕ → Messages
+messagesFrom zero s at line = endedBy 0 line
+messagesFrom (suc k) s at line =
+    cond (leb (length s) at) (endedBy 0 line)
+    (cond (eqb (messageAt s at .number) 0)
+    (sentFirst
+    (record { msg = messageAt s at .msg; topic = topicIn s (messageAt s at); payload = payloadIn s (messageAt s at) })
+    (messagesFrom k s (messageAt s at .next) (line + 7)))
+    (endedBy (messageAt s at .number) (line + 1 + messageAt s at .line)))
+
+-- all messages of a trace: none where its opening or a rule was refused
+unfoldable pub messagesOf : List ℕ → Messages
+messagesOf s =
+    cond (eqb (loaded s .number) 0) (messagesFrom (length s + 1) s (loaded s .next) (loaded s .line)) (endedBy (loaded s .number) (loaded s .line))
+
+-- what a message does to the monitor
+abbrev pub planned : MqttMonitor → Sent → Plan
+planned m x = planOf portMatches m (x .msg) (x .topic) (x .payload)
+
+-- the records of messages from the n-th on, then the closing lines
+unfoldable pub textFrom : MqttMonitor → ℕ → List Sent → ℕ → ℕ → List ℕ
+textFrom m n [] number line = closingText number line (m .«total_inspected») (m .«total_alerts»)
+textFrom m n (x ∷ xs) number line = recordText n (resultOf (planned m x)) ++ textFrom (applied m (planned m x)) (n + 1) xs number line
+
+-- what a trace prints
+unfoldable pub traceText : List ℕ → List ℕ
+traceText s = textFrom (loaded s .monitor) 1 (messagesOf s .sent) (messagesOf s .number) (messagesOf s .line)
+
+-- room for what any trace prints: a message takes at least the 44 bytes of its keys and LFs, so 65,536 bytes are at most 1,489 messages, and each prints at most 528 bytes; the closing lines are
+-- at most 109 (proofs/Bound.antt)
+abbrev pub enough : ℕ
+enough = 786432
+
+-- how a trace ends where all its lines are written
+abbrev pub wholeEnd : List ℕ → TraceEnd
+wholeEnd s = record { number = messagesOf s .number; line = messagesOf s .line; length = length (traceText s) }
+
+-- how it ends, in a buffer of so much room: 28 where that is shorter than all lines
+unfoldable pub traceEnd : ℕ → List ℕ → TraceEnd
+traceEnd room s = cond (leb (length (traceText s)) room) (wholeEnd s) (record { number = 28; line = 0; length = 0 })
+
+-- the buffer after it: 28 leaves it as it was
+unfoldable pub traceKept : List ℕ → List ℕ → List ℕ
+traceKept d s = cond (leb (length (traceText s)) (length d)) (sets d 0 (traceText s)) d
+
+-- a buffer after a text that a pass writes at a place, or only counts
+abbrev pub putIf : Bool → List ℕ → ℕ → List ℕ → List ℕ
+putIf write d at t = cond write (sets d at t) d

@@ -1,0 +1,292 @@
+// A whole trace: text in, text out (document 01, "The trace"). The rules are loaded into a fresh monitor; then one loop owns the monitor and takes message after message.
+use crate::groups::read_message;
+use crate::groups::read_opening;
+use crate::groups::read_rule;
+use crate::record::closing_len;
+use crate::record::put_closing;
+use crate::record::put_record;
+use crate::record::record_len;
+use monitor::alerts::MqttInspectResult;
+use monitor::alerts::count_on;
+use monitor::calls::new;
+use monitor::calls::new_deny_default;
+use monitor::plan::plan_for;
+use monitor::rule_calls::add_rule;
+use monitor::state::MqttMonitor;
+use monitor::state::Outcome;
+use tables::rules::TopicAction;
+ghost use mathlib.Core.Bool.{true};
+ghost use mathlib.Core.Path.{_≡_};
+ghost use Prim.Native.Nat.{_+_, _≤_};
+ghost use lib.Dec.{leb};
+ghost use lib.ListN.{length};
+ghost use Rattle.monitor.specs.Calls.{fresh};
+ghost use Rattle.monitor.specs.State.{numberOf};
+ghost use Rattle.trace.specs.Record.{recordText, closingText};
+ghost use Rattle.trace.specs.Trace.{loaded, traceText, enough, putIf, wholeEnd, traceEnd, traceKept};
+
+// Room for what any trace prints.
+const ENOUGH: usize = 786432;
+
+// How a trace ended: 0 is whole, else the number that refused it, with the last or refused line and how many bytes were written; 28 writes nothing.
+#[repr(C)]
+pub struct TraceEnd {
+    pub number: u32,
+    pub line: u64,
+    pub length: usize,
+}
+
+// What an opening and its rules gave: a monitor, or the number and line of the refusal; `next` is the place after the last line read.
+pub struct Loaded {
+    pub number: u32,
+    pub line: u64,
+    pub next: usize,
+    pub monitor: MqttMonitor,
+}
+
+// A monitor without rules, by its default.
+fn started(default_action: TopicAction) -> MqttMonitor
+    ensures { λ r. ⌜ r ≡ fresh «default_action» ⌝ }
+{
+    match default_action {
+        TopicAction::Allow => new(),
+        TopicAction::Block => new_deny_default(),
+    }
+}
+
+// The number that refused a call, 0 for none.
+fn number_of(outcome: Outcome) -> u32
+    ensures { λ r. ⌜ r ≡ numberOf outcome ⌝ }
+{
+    match outcome {
+        Outcome::Done(_) => 0,
+        Outcome::Refused(number) => number,
+    }
+}
+
+// A buffer for a pattern or a topic.
+fn buffer_128() -> [u8; 128]
+    ensures { λ r. ⌜ length r ≡ 128 ⌝ }
+{
+    [0; 128]
+}
+
+// A buffer for a payload.
+fn buffer_256() -> [u8; 256]
+    ensures { λ r. ⌜ length r ≡ 256 ⌝ }
+{
+    [0; 256]
+}
+
+// The opening and its rules. 27 is tested first; a rule that is refused gives its number at its `rate=` line, and rules before it stay loaded.
+pub fn load(text: &[u8]) -> Loaded
+    ensures { λ r. ⌜ r ≡ loaded (now (text .entry)) ⌝ }
+{
+    if 65536 < text.len() {
+        return Loaded {
+            number: 27,
+            line: 0,
+            next: 0,
+            monitor: new(),
+        };
+    }
+    let opening = read_opening(text);
+    let default_action = opening.default_action;
+    let mut m = started(default_action);
+    let mut at = opening.next;
+    if opening.number != 0 {
+        return Loaded {
+            number: opening.number,
+            line: 1 + opening.line as u64,
+            next: at,
+            monitor: m,
+        };
+    }
+    let mut pattern = buffer_128();
+    let mut line: u64 = 2;
+    let mut left = opening.rules;
+    while 0 < left {
+        let rule = read_rule(text, at, &mut pattern);
+        at = rule.next;
+        if rule.number != 0 {
+            return Loaded {
+                number: rule.number,
+                line: line + 1 + rule.line as u64,
+                next: at,
+                monitor: m,
+            };
+        }
+        let n = (rule.pattern_to - rule.pattern_from) / 2;
+        let action = rule.action;
+        let qos_policy = rule.qos_policy;
+        let called = add_rule(m, &pattern[..n], action, qos_policy, rule.rate);
+        let outcome = called.outcome;
+        let number = number_of(outcome);
+        let next = called.monitor;
+        m = next;
+        line += 4;
+        left -= 1;
+        if number != 0 {
+            return Loaded {
+                number,
+                line,
+                next: at,
+                monitor: m,
+            };
+        }
+    }
+    Loaded {
+        number: 0,
+        line,
+        next: at,
+        monitor: m,
+    }
+}
+
+// A message's lines at a place of the buffer, or only their length.
+fn pass_record(out: &mut [u8], at: usize, n: u64, result: MqttInspectResult, write: bool) -> usize
+    requires small { ⌜ at ≤ enough ⌝ }
+    requires room { ⌜ (write ≡ true → at + length (recordText n result) ≤ length (now out)) ⌝ }
+    ensures next { λ r. ⌜ r ≡ at + length (recordText n result) ⌝ }
+    ensures bytes { λ _. ⌜ now (out .exit) ≡ putIf write (now (out .entry)) at (recordText n result) ⌝ }
+{
+    if !write {
+        return at + record_len(n, result);
+    }
+    put_record(out, at, n, result)
+}
+
+// The closing lines at a place of the buffer, or only their length; and how the trace ended.
+fn pass_closing(
+    out: &mut [u8],
+    at: usize,
+    number: u32,
+    line: u64,
+    inspected: u64,
+    total: u64,
+    write: bool,
+) -> TraceEnd
+    requires small { ⌜ at ≤ enough ⌝ }
+    requires room { ⌜ (write ≡ true → at + length (closingText number line inspected total) ≤ length (now out)) ⌝ }
+    ensures next { λ r. ⌜ r ≡ record { number = number; line = line; length = at + length (closingText number line inspected total) } ⌝ }
+    ensures bytes { λ _. ⌜ now (out .exit) ≡ putIf write (now (out .entry)) at (closingText number line inspected total) ⌝ }
+{
+    if !write {
+        return TraceEnd {
+            number,
+            line,
+            length: at + closing_len(number, line, inspected, total),
+        };
+    }
+    TraceEnd {
+        number,
+        line,
+        length: put_closing(out, at, number, line, inspected, total),
+    }
+}
+
+// One pass over a trace, which writes its text from the buffer's beginning on, or only counts it. The loop owns the monitor: each message is planned, its records are stored, its lines go out.
+fn pass(text: &[u8], out: &mut [u8], write: bool) -> TraceEnd
+    requires { ⌜ (write ≡ true → length (traceText (now text)) ≤ length (now out)) ⌝ }
+    ensures end { λ r. ⌜ r ≡ wholeEnd (now (text .entry)) ⌝ }
+    ensures bytes { λ _. ⌜ now (out .exit) ≡ putIf write (now (out .entry)) 0 (traceText (now (text .entry))) ⌝ }
+{
+    let start = load(text);
+    let mut m = start.monitor;
+    let mut at = start.next;
+    let mut line = start.line;
+    if start.number != 0 {
+        return pass_closing(
+            out,
+            0,
+            start.number,
+            line,
+            m.total_inspected,
+            m.total_alerts,
+            write,
+        );
+    }
+    let mut topic = buffer_128();
+    let mut payload = buffer_256();
+    let mut n: u64 = 1;
+    let mut p: usize = 0;
+    while at < text.len() {
+        let group = read_message(text, at, &mut topic, &mut payload);
+        if group.number != 0 {
+            return pass_closing(
+                out,
+                p,
+                group.number,
+                line + 1 + group.line as u64,
+                m.total_inspected,
+                m.total_alerts,
+                write,
+            );
+        }
+        let msg = group.msg;
+        let topic_len = msg.topic_len as usize;
+        let payload_len = msg.payload_inspectable_len as usize;
+        let plan = plan_for(m, msg, &topic[..topic_len], &payload[..payload_len]);
+        let inspected = count_on(m.total_inspected);
+        let seen = plan.seen;
+        let seen_at = seen.at;
+        if seen_at < 16 {
+            let entry = seen.entry;
+            m.client_hashes[seen_at] = entry;
+        }
+        let spent = plan.spent;
+        let spent_at = spent.at;
+        if spent_at < 32 {
+            let bucket = spent.bucket;
+            m.rate_buckets[spent_at] = bucket;
+        }
+        let fed = plan.fed;
+        let fed_at = fed.at;
+        if fed_at < 16 {
+            let tracker = fed.tracker;
+            m.ewma_trackers[fed_at] = tracker;
+        }
+        let raised = plan.raised;
+        m.next_alert_id = raised.next_id;
+        m.total_inspected = inspected;
+        m.total_alerts = raised.total;
+        let alerts = raised.alerts;
+        let result = MqttInspectResult {
+            allowed: plan.allowed,
+            alert_count: raised.count,
+            alerts,
+        };
+        p = pass_record(out, p, n, result, write);
+        at = group.next;
+        line += 7;
+        n += 1;
+    }
+    pass_closing(out, p, 0, line, m.total_inspected, m.total_alerts, write)
+}
+
+// Whether the room is enough for what a trace prints. Only where it could be too small is that counted.
+fn fits(text: &[u8], room: usize) -> bool
+    ensures { λ r. ⌜ r ≡ leb (length (traceText (now (text .entry)))) room ⌝ }
+{
+    if ENOUGH <= room {
+        return true;
+    }
+    let mut unused = [0u8; 1];
+    let counted = pass(text, &mut unused, false);
+    counted.length <= room
+}
+
+// A whole trace into a lent buffer: 28, with nothing written, where the buffer is shorter than all lines.
+pub fn run_trace(text: &[u8], out: &mut [u8]) -> TraceEnd
+    ensures end { λ r. ⌜ r ≡ traceEnd (length (now (out .entry))) (now (text .entry)) ⌝ }
+    ensures bytes { λ _. ⌜ now (out .exit) ≡ traceKept (now (out .entry)) (now (text .entry)) ⌝ }
+{
+    if !fits(text, out.len()) {
+        return TraceEnd {
+            number: 28,
+            line: 0,
+            length: 0,
+        };
+    }
+    pass(text, out, true)
+}
