@@ -4,6 +4,7 @@ pub mod AnswersLines
 pub mod AnswersMonitor
 pub mod AnswersTables
 pub mod AnswersTopics
+pub mod AnswersTrace
 pub mod Budget
 pub mod Corners
 pub mod Cuts
