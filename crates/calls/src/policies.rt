@@ -1,0 +1,78 @@
+// A rule's action and QoS policy, and a message's QoS, as the trace writes them.
+use crate::parts::arg;
+use crate::parts::is;
+use crate::parts::number;
+use crate::say::say;
+use crate::say::say_number;
+use lines::value;
+use lines::value::Number;
+use tables::rules::MqttQoS;
+use tables::rules::QosPolicy;
+use tables::rules::TopicAction;
+
+// A level by its number.
+fn level(n: u64) -> MqttQoS {
+    match n {
+        0 => MqttQoS::AtMostOnce,
+        1 => MqttQoS::AtLeastOnce,
+        _ => MqttQoS::ExactlyOnce,
+    }
+}
+
+// An argument that is a level, 0 to 2.
+pub fn qos(q: &[u8], k: usize) -> MqttQoS {
+    level(number(q, k))
+}
+
+// An argument that is an action.
+pub fn action(q: &[u8], k: usize) -> TopicAction {
+    if is(arg(q, k), b"block") {
+        return TopicAction::Block;
+    }
+    TopicAction::Allow
+}
+
+// A policy by its place among the words.
+fn policy_at(n: u64) -> QosPolicy {
+    match n {
+        1 => QosPolicy::MinQoS(MqttQoS::AtMostOnce),
+        2 => QosPolicy::MinQoS(MqttQoS::AtLeastOnce),
+        3 => QosPolicy::MinQoS(MqttQoS::ExactlyOnce),
+        4 => QosPolicy::ExactQoS(MqttQoS::AtMostOnce),
+        5 => QosPolicy::ExactQoS(MqttQoS::AtLeastOnce),
+        6 => QosPolicy::ExactQoS(MqttQoS::ExactlyOnce),
+        _ => QosPolicy::Any,
+    }
+}
+
+// An argument that is a policy.
+pub fn policy(q: &[u8], k: usize) -> QosPolicy {
+    match value::word(b"any|min0|min1|min2|only0|only1|only2", arg(q, k)) {
+        Number::Value(n) => policy_at(n),
+        Number::Bad => QosPolicy::Any,
+    }
+}
+
+pub fn say_action(action: TopicAction) {
+    match action {
+        TopicAction::Allow => say(b" action=allow"),
+        TopicAction::Block => say(b" action=block"),
+    }
+}
+
+// A level's number, behind the kind of policy that names it.
+fn say_level(kind: &[u8], level: MqttQoS) {
+    match level {
+        MqttQoS::AtMostOnce => say_number(kind, 0),
+        MqttQoS::AtLeastOnce => say_number(kind, 1),
+        MqttQoS::ExactlyOnce => say_number(kind, 2),
+    }
+}
+
+pub fn say_policy(policy: QosPolicy) {
+    match policy {
+        QosPolicy::Any => say(b" any"),
+        QosPolicy::MinQoS(level) => say_level(b"min", level),
+        QosPolicy::ExactQoS(level) => say_level(b"only", level),
+    }
+}
