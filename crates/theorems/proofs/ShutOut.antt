@@ -9,30 +9,40 @@ use lib.ListN.{length}
 use Rattle.topics.specs.Hashes.{fnv1a, djb2, suffixHash}
 use Rattle.topics.specs.Levels.{firstLevel, restLevels, same, has}
 use Rattle.topics.specs.Matching.{matchLevels, fromSlash, takesNone, takesEnd, matchBytes, standardRule, portMatches, standardMatches}
+use Rattle.topics.specs.Patterns.{wellPlaced, countOf, patternRefusal}
 use Rattle.topics.specs.declared.matching.StandardMatch.{StandardMatch}
 use Rattle.topics.specs.declared.matching.StandardMatch.the-variants.{Yes, No, OutsideDomain}
-use Rattle.topics.specs.Patterns.{wellPlaced, countOf, patternRefusal}
+use Rattle.lines.specs.Decimal.{decimal, decimalIn}
+use Rattle.lines.specs.Field.{keyed, lineAt, answered, wordField, numberField}
+use Rattle.lines.specs.Line.{numberLine}
+use Rattle.lines.specs.ReadWord.{begins, isWord, wordOf, wordIndex}
+use Rattle.lines.specs.Span.{spanOf, placeOf, toByte}
+use Rattle.lines.specs.Word.{firstWord, restWords}
 use Rattle.tables.specs.Buckets.{refilled, spend, isExpired, holdsBucket, newcomer, decide}
-use Rattle.tables.specs.declared.identity.Id.{Id}
 use Rattle.tables.specs.Identity.{prefixOf, idOf, isOf}
 use Rattle.tables.specs.Rules.{qosOk, ruleFine, equalRule, firstRule, covered, shadowedAfter}
 use Rattle.tables.specs.Scan.{find, leastOf}
+use Rattle.tables.specs.declared.identity.Id.{Id}
+use Rattle.tables.specs.declared.rules.QosPolicy.the-variants.{Any}
+use Rattle.tables.specs.declared.rules.TopicAction.the-variants.{Allow}
 use Rattle.monitor.specs.Alerts.{severityOf, hashOf, kindsOf, raise, raiseAll}
 use Rattle.monitor.specs.Calls.{fresh, addRefusal, addedTo, addRule, validateRules}
 use Rattle.monitor.specs.Gate.{rulingOf, gateAfter, gateOf}
 use Rattle.monitor.specs.Inspect.{applied, inspectRefusal, inspectWith}
 use Rattle.monitor.specs.Plan.{seenOf, spentOf, fedOf, denialOf, planFrom, planOf}
+use Rattle.monitor.specs.Runs.{Call, answer, after}
 use Rattle.monitor.specs.State.{every, wellFormed}
 use Rattle.monitor.specs.declared.inspection.Inspected.{Inspected}
 use Rattle.monitor.specs.declared.state.MqttMonitor.{MqttMonitor}
 use Rattle.monitor.specs.declared.state.Outcome.{Outcome}
 use Rattle.monitor.specs.declared.state.Outcome.the-variants.{Done, Refused}
+use Rattle.trace.specs.Groups.{openingOf, opening1, opening2}
+use Rattle.trace.specs.Record.{closingText}
+use Rattle.trace.specs.Trace.{loadedFrom, loaded, messagesOf, textFrom, traceText, traceEnd}
+use Rattle.trace.specs.declared.run.TraceEnd.{TraceEnd}
 use Rattle.theorems.specs.Corners.{bytes}
-use Rattle.monitor.specs.Runs.{Call, answer, after}
 use Rattle.theorems.specs.Run.{Matcher, InOrder, single, later, OneRate, done, next, rateOf, reaches, allowedOf, isAmong, arrived}
 use Rattle.theorems.specs.ShutOut.{Monitor, passes, afterBy, passedBy, UpperBy, LowerBy, Meets, ShutOut}
-use Rattle.tables.specs.declared.rules.QosPolicy.the-variants.{Any}
-use Rattle.tables.specs.declared.rules.TopicAction.the-variants.{Allow}
 use Rattle.theorems.specs.Tight.{hub, publish}
 use Rattle.theorems.proofs.Lower.{lower-first}
 use Rattle.theorems.proofs.Tight.{hub-prepared}
@@ -177,6 +187,16 @@ invented-shadow v meets n h =
     let one : 1 ≡ n = ap count (sym (shadows .1) ∙ sym (meets shadowed) ∙ h shadowed) in
     omega arith
 
+-- an empty trace is refused at its first line, and one with that line alone at its second
+lines-read : (traceEnd 200 [] .line ≡ 1) × (traceEnd 200 (bytes "default=allow" ++ 10 ∷ []) .line ≡ 2)
+unfolding bytes fresh spanOf placeOf toByte firstWord restWords begins isWord wordOf wordIndex keyed lineAt answered wordField numberField decimal decimalIn numberLine openingOf opening1 opening2 closingText loadedFrom loaded messagesOf textFrom traceText traceEnd
+lines-read = (refl, refl)
+
+invented-line : (g : ℕ → List ℕ → TraceEnd) → ((room : ℕ) (text : List ℕ) → g room text ≡ traceEnd room text) → (n : ℕ) → ¬ ((room : ℕ) (text : List ℕ) → g room text .line ≡ n)
+invented-line g meets n h =
+    let at : (text : List ℕ) → traceEnd 200 text .line ≡ n = λ text. sym (ap (λ (e : TraceEnd). e .line) (meets 200 text)) ∙ h 200 text in
+    omega (arith, lines-read .0, lines-read .1, at [], at (bytes "default=allow" ++ 10 ∷ []))
+
 pub shut-out : ShutOut
 shut-out =
     record {
@@ -189,4 +209,5 @@ shut-out =
       one-reply-standard = one-reply-standard;
       invented-alert = invented-alert;
       invented-shadow = invented-shadow;
+      invented-line = invented-line;
     }

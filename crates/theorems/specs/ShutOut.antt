@@ -10,11 +10,13 @@ use Rattle.topics.specs.Matching.{portMatches, standardMatches}
 use Rattle.topics.specs.declared.matching.StandardMatch.{StandardMatch}
 use Rattle.tables.specs.declared.identity.Id.{Id}
 use Rattle.monitor.specs.Calls.{validateRules}
+use Rattle.monitor.specs.Runs.{Call, answer}
 use Rattle.monitor.specs.declared.inspection.Inspected.{Inspected}
 use Rattle.monitor.specs.declared.state.MqttMonitor.{MqttMonitor}
 use Rattle.monitor.specs.declared.state.Outcome.{Outcome}
 use Rattle.monitor.specs.declared.state.Outcome.the-variants.{Done}
-use Rattle.monitor.specs.Runs.{Call, answer}
+use Rattle.trace.specs.Trace.{traceEnd}
+use Rattle.trace.specs.declared.run.TraceEnd.{TraceEnd}
 use Rattle.theorems.specs.Run.{Matcher, Prepared, time, reaches, InOrder, OneRate, Silent, arrived}
 
 -- a monitor: what it hands back on a state and a call
@@ -80,3 +82,5 @@ pub record ShutOut : Type 0 where
   pub invented-alert : (f : Monitor) → Meets f → ¬ ((m : MqttMonitor) (c : Call) → 0 < f m c .result .«alert_count»)
   -- a shadow count of its own, the same for all rules
   pub invented-shadow : (v : MqttMonitor → Outcome) → ((m : MqttMonitor) → v m ≡ validateRules m) → (n : ℕ) → ¬ ((m : MqttMonitor) → v m ≡ Done n)
+  -- a line count of its own, the same for all traces
+  pub invented-line : (g : ℕ → List ℕ → TraceEnd) → ((room : ℕ) (text : List ℕ) → g room text ≡ traceEnd room text) → (n : ℕ) → ¬ ((room : ℕ) (text : List ℕ) → g room text .line ≡ n)
