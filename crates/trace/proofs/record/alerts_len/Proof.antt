@@ -1,6 +1,6 @@
-use borrow.Author.Needs.{needs}
 -- `trace::record::alerts_len` meets its contract. The invariant: `p` is the length of the text of the first `i` alerts, no more than `count`, and at most 121 bytes for each; the measure: the places
 -- of the array that are left. Assumes nothing.
+use borrow.Author.Needs.{needs}
 use Prim.Native.Nat.{_≤_, _-_, _*_}
 use mathlib.Core.Path.{_≡_}
 use native.Mathlib.Omega.{arith}

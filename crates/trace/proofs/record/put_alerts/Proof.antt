@@ -1,6 +1,6 @@
-use borrow.Author.Needs.{needs}
 -- `trace::record::put_alerts` meets its contract. The invariant: the first `i` alerts, no more than `count`, are written from `at` on, and `p` is the place after them; the measure: the places of
 -- the array that are left. Assumes nothing.
+use borrow.Author.Needs.{needs}
 use Prim.Native.Nat.{_≤_, _-_}
 use mathlib.Core.Path.{_≡_}
 use native.Mathlib.Omega.{arith}

@@ -1,12 +1,13 @@
-use mathlib.Core.Path.{refl, sym}
-use lib.Seq.{length-take-le}
 -- `trace::run::load` meets its contract. The invariant: what is left of the rules, loaded into the monitor after the lines that were read, is what the text loads; the measure: the rules that are left.
 -- Assumes nothing.
-use mathlib.Core.Path.{_≡_}
+use lib.Seq.{length-take-le}
+use mathlib.Core.Path.{_≡_, refl, sym}
+use Prim.Native.Nat.{_-_, _/_, _≤_}
 use native.Mathlib.Omega.{arith}
-use lib.ListN.{length}
+use lib.ListN.{length, take}
 use borrow.Author.Tests.{ne-eqb, le-leb, lt-leb}
 use borrow.Author.Needs.{needs}
+use Rattle.trace.specs.Groups.{patternIn}
 use Rattle.trace.specs.Trace.{loaded, loadedFrom}
 use Rattle.trace.proofs.LoadLaws.{Loading, load-start, load-stop, load-refused, load-turn, load-end}
 use Rattle.trace.proofs.BufferLaws.{pattern-part}
@@ -66,11 +67,15 @@ returns-3 c = load-stop (c .before .before .before .before .before .before .loop
 sub-n : tie.Need-sub-n Inv-loop μ-loop
 sub-n c = omega (arith, c .before .before .before .read-rule .ensures .1 .0 .ordered)
 
+-- the rule's pattern is the first bytes of its buffer
+pattern-has : (c : tie.Else3 Inv-loop μ-loop) → (take ((c .before .before .read-rule .result .«pattern_to» - c .before .before .read-rule .result .«pattern_from») / 2) (c .before .before .read-rule .last .1 .1 .0) ≡ patternIn (c .before .before .before .before .before .before .before .before .before .before .before .before .before .args .text .now) (c .before .before .read-rule .result)) × (((c .before .before .read-rule .result .«pattern_to» - c .before .before .read-rule .result .«pattern_from») / 2) ≤ length (c .before .before .read-rule .last .1 .1 .0)) × (length (c .before .before .read-rule .last .1 .1 .0) ≡ 128)
+pattern-has c = pattern-part _ _ _ (c .before .before .read-rule .ensures .0) (c .if3 .left) (c .before .before .before .before .before .loop .inv .1) (c .before .before .read-rule .ensures .1 .1) refl
+
 array-share-prefix-pattern : tie.Need-array-share-prefix-pattern Inv-loop μ-loop
-array-share-prefix-pattern c = pattern-part _ _ _ (c .before .before .before .read-rule .ensures .0) (c .before .if3 .left) (c .before .before .before .before .before .before .loop .inv .1) (c .before .before .before .read-rule .ensures .1 .1) refl .1
+array-share-prefix-pattern c = pattern-has (c .before) .1
 
 slice-aggregate-add-rule : tie.Need-slice-aggregate-add-rule Inv-loop μ-loop
-slice-aggregate-add-rule c = sym (length-take-le _ _ (pattern-part _ _ _ (c .before .before .before .before .read-rule .ensures .0) (c .before .before .if3 .left) (c .before .before .before .before .before .before .before .loop .inv .1) (c .before .before .before .before .read-rule .ensures .1 .1) refl .1))
+slice-aggregate-add-rule c = sym (length-take-le _ _ (pattern-has (c .before .before) .1))
 
 add-rule-requires : tie.Need-add-rule-requires Inv-loop μ-loop
 add-rule-requires c κs = search needs
@@ -85,13 +90,13 @@ sub-left : tie.Need-sub-left Inv-loop μ-loop
 sub-left c = omega (arith, c .before .before .before .before .before .before .before .before .before .loop-test .taken)
 
 returns-4 : tie.Need-returns-4 Inv-loop μ-loop
-returns-4 c = load-refused (c .before .before .before .before .before .before .before .before .before .before .before .loop .inv .0) (c .before .before .before .before .before .before .before .before .before .before .loop-test .taken) (c .before .before .before .before .before .before .before .before .read-rule .ensures .0) (c .before .before .before .before .before .before .if3 .left) (pattern-part _ _ _ (c .before .before .before .before .before .before .before .before .read-rule .ensures .0) (c .before .before .before .before .before .before .if3 .left) (c .before .before .before .before .before .before .before .before .before .before .before .loop .inv .1) (c .before .before .before .before .before .before .before .before .read-rule .ensures .1 .1) refl .0) (c .before .before .before .add-rule .ensures) (c .before .before .number-of .ensures) (c .if4 .taken)
+returns-4 c = load-refused (c .before .before .before .before .before .before .before .before .before .before .before .loop .inv .0) (c .before .before .before .before .before .before .before .before .before .before .loop-test .taken) (c .before .before .before .before .before .before .before .before .read-rule .ensures .0) (c .before .before .before .before .before .before .if3 .left) (pattern-has (c .before .before .before .before .before .before) .0) (c .before .before .before .add-rule .ensures) (c .before .before .number-of .ensures) (c .if4 .taken)
 
 loop-less : tie.Need-loop-less Inv-loop μ-loop
 loop-less c = omega (arith, c .before .before .before .before .before .before .before .before .before .before .loop-test .taken)
 
 loop-again : tie.Need-loop-again Inv-loop μ-loop
-loop-again c = (load-turn (c .before .before .before .before .before .before .before .before .before .before .before .loop .inv .0) (c .before .before .before .before .before .before .before .before .before .before .loop-test .taken) (c .before .before .before .before .before .before .before .before .read-rule .ensures .0) (c .before .before .before .before .before .before .if3 .left) (pattern-part _ _ _ (c .before .before .before .before .before .before .before .before .read-rule .ensures .0) (c .before .before .before .before .before .before .if3 .left) (c .before .before .before .before .before .before .before .before .before .before .before .loop .inv .1) (c .before .before .before .before .before .before .before .before .read-rule .ensures .1 .1) refl .0) (c .before .before .before .add-rule .ensures) (c .before .before .number-of .ensures) (c .if4 .left), pattern-part _ _ _ (c .before .before .before .before .before .before .before .before .read-rule .ensures .0) (c .before .before .before .before .before .before .if3 .left) (c .before .before .before .before .before .before .before .before .before .before .before .loop .inv .1) (c .before .before .before .before .before .before .before .before .read-rule .ensures .1 .1) refl .2)
+loop-again c = (load-turn (c .before .before .before .before .before .before .before .before .before .before .before .loop .inv .0) (c .before .before .before .before .before .before .before .before .before .before .loop-test .taken) (c .before .before .before .before .before .before .before .before .read-rule .ensures .0) (c .before .before .before .before .before .before .if3 .left) (pattern-has (c .before .before .before .before .before .before) .0) (c .before .before .before .add-rule .ensures) (c .before .before .number-of .ensures) (c .if4 .left), pattern-has (c .before .before .before .before .before .before) .2)
 
 returns-5 : tie.Need-returns-5 Inv-loop μ-loop
 returns-5 c = load-end (c .before .loop .inv .0) (omega (arith, c .loop-test .left))

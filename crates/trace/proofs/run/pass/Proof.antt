@@ -1,16 +1,18 @@
 -- `trace::run::pass` meets its contract. The invariant: what the messages left print, from the place in the buffer on, completes what the whole trace prints (RunLaws, `Going`), and the two buffers keep
 -- their lengths; the measure: the bytes of the text that are left. Assumes nothing.
-use Prim.Native.Nat.{_-_}
+use Prim.Native.Nat.{_-_, _≤_}
 use mathlib.Core.Logic.{⊎-elim}
 use mathlib.Core.Path.{_≡_, sym, ap, _∙_}
 use native.Mathlib.Omega.{arith}
-use lib.ListN.{length}
+use lib.ListN.{length, take}
 use lib.Seq.{length-take-le}
 use borrow.Author.Needs.{needs}
 use Rattle.monitor.specs.Inspect.{storedAt}
 use Rattle.monitor.proofs.ApplyLaws.{stored-yes, stored-no, withClients, withBuckets, withTrackers, stored-all}
+use Rattle.trace.specs.Groups.{topicIn, payloadIn}
+use Rattle.trace.specs.Trace.{planned}
 use Rattle.trace.proofs.BufferLaws.{topic-part, payload-part}
-use Rattle.trace.proofs.RunLaws.{Going, going-start, going-small, turn-room, going-turn, close-room, close-end, close-bytes, left-end, left-stop, plan-sent, read-further, unloaded-text, unloaded-end}
+use Rattle.trace.proofs.RunLaws.{Going, going-start, going-small, turn-room, going-turn, close-room, close-end, close-bytes, left-end, left-stop, plan-sent, sentAt, read-further, unloaded-text, unloaded-end}
 use Rattle.trace.proofs.run.pass.Statement.{statement}
 use Rattle.trace.proofs.run.pass.Tie as tie
 
@@ -68,17 +70,24 @@ cast-topic-len c = search needs
 cast-payload-len : tie.Need-cast-payload-len Inv-loop μ-loop
 cast-payload-len c = search needs
 
+-- the message's topic and payload are the first bytes of their buffers
+topic-has : (c : tie.Else2 Inv-loop μ-loop) → (take (c .before .before .read-message .result .msg .«topic_len») (c .before .before .read-message .last .1 .1 .0) ≡ topicIn (c .before .before .before .before .before .before .before .before .before .before .before .before .before .before .before .args .text .now) (c .before .before .read-message .result)) × (c .before .before .read-message .result .msg .«topic_len» ≤ length (c .before .before .read-message .last .1 .1 .0)) × (length (c .before .before .read-message .last .1 .1 .0) ≡ 128)
+topic-has c = topic-part _ _ _ (c .before .before .read-message .ensures .0) (c .if2 .left) (c .before .before .before .before .before .before .loop .inv .1) (c .before .before .read-message .ensures .1 .1 .0)
+
+payload-has : (c : tie.Else2 Inv-loop μ-loop) → (take (c .before .before .read-message .result .msg .«payload_inspectable_len») (c .before .before .read-message .last .1 .1 .1 .0) ≡ payloadIn (c .before .before .before .before .before .before .before .before .before .before .before .before .before .before .before .args .text .now) (c .before .before .read-message .result)) × (c .before .before .read-message .result .msg .«payload_inspectable_len» ≤ length (c .before .before .read-message .last .1 .1 .1 .0)) × (length (c .before .before .read-message .last .1 .1 .1 .0) ≡ 256)
+payload-has c = payload-part _ _ _ (c .before .before .read-message .ensures .0) (c .if2 .left) (c .before .before .before .before .before .before .loop .inv .2) (c .before .before .read-message .ensures .1 .1 .1)
+
 array-share-prefix-topic : tie.Need-array-share-prefix-topic Inv-loop μ-loop
-array-share-prefix-topic c = topic-part _ _ _ (c .before .before .before .before .before .read-message .ensures .0) (c .before .before .before .if2 .left) (c .before .before .before .before .before .before .before .before .before .loop .inv .1) (c .before .before .before .before .before .read-message .ensures .1 .1 .0) .1
+array-share-prefix-topic c = topic-has (c .before .before .before) .1
 
 slice-aggregate-plan-for : tie.Need-slice-aggregate-plan-for Inv-loop μ-loop
-slice-aggregate-plan-for c = sym (length-take-le _ _ (topic-part _ _ _ (c .before .before .before .before .before .before .read-message .ensures .0) (c .before .before .before .before .if2 .left) (c .before .before .before .before .before .before .before .before .before .before .loop .inv .1) (c .before .before .before .before .before .before .read-message .ensures .1 .1 .0) .1))
+slice-aggregate-plan-for c = sym (length-take-le _ _ (topic-has (c .before .before .before .before) .1))
 
 array-share-prefix-payload : tie.Need-array-share-prefix-payload Inv-loop μ-loop
-array-share-prefix-payload c = payload-part _ _ _ (c .before .before .before .before .before .before .read-message .ensures .0) (c .before .before .before .before .if2 .left) (c .before .before .before .before .before .before .before .before .before .before .loop .inv .2) (c .before .before .before .before .before .before .read-message .ensures .1 .1 .1) .1
+array-share-prefix-payload c = payload-has (c .before .before .before .before) .1
 
 slice-aggregate-plan-for-2 : tie.Need-slice-aggregate-plan-for-2 Inv-loop μ-loop
-slice-aggregate-plan-for-2 c = sym (length-take-le _ _ (payload-part _ _ _ (c .before .before .before .before .before .before .before .read-message .ensures .0) (c .before .before .before .before .before .if2 .left) (c .before .before .before .before .before .before .before .before .before .before .before .loop .inv .2) (c .before .before .before .before .before .before .before .read-message .ensures .1 .1 .1) .1))
+slice-aggregate-plan-for-2 c = sym (length-take-le _ _ (payload-has (c .before .before .before .before .before) .1))
 
 plan-for-requires : tie.Need-plan-for-requires Inv-loop μ-loop
 plan-for-requires c κs = search needs
@@ -103,6 +112,10 @@ mul-tracker c = search needs
 
 element-set-from-tracker : tie.Need-element-set-from-tracker Inv-loop μ-loop
 element-set-from-tracker c = search needs
+
+-- its plan is that of the message sent
+plan-is : (c : tie.After-plan-for Inv-loop μ-loop) → c .plan-for .result ≡ planned (c .before .before .before .before .before .before .before .before .before .before .before .before .loop .m) (sentAt (c .before .before .before .before .before .before .before .before .before .before .before .before .before .before .before .before .before .before .before .before .before .args .text .now) (c .before .before .before .before .before .before .before .before .before .before .before .before .loop .at))
+plan-is c = plan-sent _ _ _ (c .before .before .before .before .before .before .before .before .read-message .ensures .0) (topic-has (c .before .before .before .before .before .before) .0) (payload-has (c .before .before .before .before .before .before) .0) (c .plan-for .ensures)
 
 -- the state after each store, where the ways from its test meet
 client-is : (c : tie.Joined3 Inv-loop μ-loop) → c .if3 .m ≡ withClients (c .before .before .before .before .before .before .before .before .before .before .before .before .before .before .before .loop .m) (storedAt 16 (c .before .before .before .before .before .before .before .before .before .before .before .before .before .before .before .loop .m .«client_hashes») (c .before .before .before .plan-for .result .seen .at) (c .before .before .before .plan-for .result .seen .entry))
@@ -133,7 +146,7 @@ tracker-is c =
     (c .if5 .came)
 
 pass-record-requires : tie.Need-pass-record-requires Inv-loop μ-loop
-pass-record-requires c κs = (going-small (c .before .before .before .before .before .before .before .before .before .before .before .before .before .before .before .before .before .before .before .before .before .before .loop .inv .0), turn-room (c .before .before .before .before .before .before .before .before .before .before .before .before .before .before .before .before .before .before .before .before .before .before .loop .inv .0) (c .before .before .before .before .before .before .before .before .before .before .before .before .before .before .before .before .before .before .before .before .before .before .before .before .before .before .before .before .before .before .before .pre) (c .before .before .before .before .before .before .before .before .before .before .before .before .before .before .before .before .before .before .before .before .before .loop-test .taken) (c .before .before .before .before .before .before .before .before .before .before .before .before .before .before .before .before .before .before .read-message .ensures .0) (c .before .before .before .before .before .before .before .before .before .before .before .before .before .before .before .before .if2 .left) (plan-sent _ _ _ (c .before .before .before .before .before .before .before .before .before .before .before .before .before .before .before .before .before .before .read-message .ensures .0) (topic-part _ _ _ (c .before .before .before .before .before .before .before .before .before .before .before .before .before .before .before .before .before .before .read-message .ensures .0) (c .before .before .before .before .before .before .before .before .before .before .before .before .before .before .before .before .if2 .left) (c .before .before .before .before .before .before .before .before .before .before .before .before .before .before .before .before .before .before .before .before .before .before .loop .inv .1) (c .before .before .before .before .before .before .before .before .before .before .before .before .before .before .before .before .before .before .read-message .ensures .1 .1 .0) .0) (payload-part _ _ _ (c .before .before .before .before .before .before .before .before .before .before .before .before .before .before .before .before .before .before .read-message .ensures .0) (c .before .before .before .before .before .before .before .before .before .before .before .before .before .before .before .before .if2 .left) (c .before .before .before .before .before .before .before .before .before .before .before .before .before .before .before .before .before .before .before .before .before .before .loop .inv .2) (c .before .before .before .before .before .before .before .before .before .before .before .before .before .before .before .before .before .before .read-message .ensures .1 .1 .1) .0) (c .before .before .before .before .before .before .before .before .before .before .plan-for .ensures)))
+pass-record-requires c κs = (going-small (c .before .before .before .before .before .before .before .before .before .before .before .before .before .before .before .before .before .before .before .before .before .before .loop .inv .0), turn-room (c .before .before .before .before .before .before .before .before .before .before .before .before .before .before .before .before .before .before .before .before .before .before .loop .inv .0) (c .before .before .before .before .before .before .before .before .before .before .before .before .before .before .before .before .before .before .before .before .before .before .before .before .before .before .before .before .before .before .before .pre) (c .before .before .before .before .before .before .before .before .before .before .before .before .before .before .before .before .before .before .before .before .before .loop-test .taken) (c .before .before .before .before .before .before .before .before .before .before .before .before .before .before .before .before .before .before .read-message .ensures .0) (c .before .before .before .before .before .before .before .before .before .before .before .before .before .before .before .before .if2 .left) (plan-is (c .before .before .before .before .before .before .before .before .before .before)))
 
 add-line : tie.Need-add-line Inv-loop μ-loop
 add-line c = omega (arith, c .before .before .before .before .before .before .before .before .before .before .before .before .before .before .before .before .before .before .before .before .before .before .before .before .before .loop .inv .0 .lines, c .before .before .before .before .before .before .before .before .before .before .before .before .before .before .before .before .before .before .before .before .before .before .before .before .before .loop .inv .0 .short, c .before .before .before .before .before .before .before .before .before .before .before .before .before .before .before .before .before .before .before .before .before .before .before .before .loop-test .taken)
@@ -145,7 +158,7 @@ loop-less : tie.Need-loop-less Inv-loop μ-loop
 loop-less c = omega (arith, c .before .before .before .before .before .before .before .before .before .before .before .before .before .before .before .before .before .before .before .before .before .before .before .before .loop-test .taken, read-further (c .before .before .before .before .before .before .before .before .before .before .before .before .before .before .before .before .before .before .before .before .before .before .before .before .before .before .before .before .before .before .before .before .before .before .args .text .now) (c .before .before .before .before .before .before .before .before .before .before .before .before .before .before .before .before .before .before .before .before .before .before .before .before .before .loop .at) (c .before .before .before .before .before .before .before .before .before .before .before .before .before .before .before .before .before .before .before .before .before .read-message .ensures .0) (c .before .before .before .before .before .before .before .before .before .before .before .before .before .before .before .before .before .before .before .if2 .left))
 
 loop-again : tie.Need-loop-again Inv-loop μ-loop
-loop-again c = (going-turn (c .before .before .before .before .before .before .before .before .before .before .before .before .before .before .before .before .before .before .before .before .before .before .before .before .before .loop .inv .0) (c .before .before .before .before .before .before .before .before .before .before .before .before .before .before .before .before .before .before .before .before .before .before .before .before .before .before .before .before .before .before .before .before .before .before .pre) (c .before .before .before .before .before .before .before .before .before .before .before .before .before .before .before .before .before .before .before .before .before .before .before .before .loop-test .taken) (c .before .before .before .before .before .before .before .before .before .before .before .before .before .before .before .before .before .before .before .before .before .read-message .ensures .0) (c .before .before .before .before .before .before .before .before .before .before .before .before .before .before .before .before .before .before .before .if2 .left) (plan-sent _ _ _ (c .before .before .before .before .before .before .before .before .before .before .before .before .before .before .before .before .before .before .before .before .before .read-message .ensures .0) (topic-part _ _ _ (c .before .before .before .before .before .before .before .before .before .before .before .before .before .before .before .before .before .before .before .before .before .read-message .ensures .0) (c .before .before .before .before .before .before .before .before .before .before .before .before .before .before .before .before .before .before .before .if2 .left) (c .before .before .before .before .before .before .before .before .before .before .before .before .before .before .before .before .before .before .before .before .before .before .before .before .before .loop .inv .1) (c .before .before .before .before .before .before .before .before .before .before .before .before .before .before .before .before .before .before .before .before .before .read-message .ensures .1 .1 .0) .0) (payload-part _ _ _ (c .before .before .before .before .before .before .before .before .before .before .before .before .before .before .before .before .before .before .before .before .before .read-message .ensures .0) (c .before .before .before .before .before .before .before .before .before .before .before .before .before .before .before .before .before .before .before .if2 .left) (c .before .before .before .before .before .before .before .before .before .before .before .before .before .before .before .before .before .before .before .before .before .before .before .before .before .loop .inv .2) (c .before .before .before .before .before .before .before .before .before .before .before .before .before .before .before .before .before .before .before .before .before .read-message .ensures .1 .1 .1) .0) (c .before .before .before .before .before .before .before .before .before .before .before .before .before .plan-for .ensures)) (stored-all _ _ (client-is (c .before .before .before .before .before .before .before .before .before .before)) (bucket-is (c .before .before .before .before .before .before .before .before)) (tracker-is (c .before .before .before .before .before .before)) (c .before .before .before .before .before .before .before .before .before .before .before .before .count-on .ensures)) (c .before .before .pass-record .ensures .0) (c .before .before .pass-record .ensures .1), topic-part _ _ _ (c .before .before .before .before .before .before .before .before .before .before .before .before .before .before .before .before .before .before .before .before .before .read-message .ensures .0) (c .before .before .before .before .before .before .before .before .before .before .before .before .before .before .before .before .before .before .before .if2 .left) (c .before .before .before .before .before .before .before .before .before .before .before .before .before .before .before .before .before .before .before .before .before .before .before .before .before .loop .inv .1) (c .before .before .before .before .before .before .before .before .before .before .before .before .before .before .before .before .before .before .before .before .before .read-message .ensures .1 .1 .0) .2, payload-part _ _ _ (c .before .before .before .before .before .before .before .before .before .before .before .before .before .before .before .before .before .before .before .before .before .read-message .ensures .0) (c .before .before .before .before .before .before .before .before .before .before .before .before .before .before .before .before .before .before .before .if2 .left) (c .before .before .before .before .before .before .before .before .before .before .before .before .before .before .before .before .before .before .before .before .before .before .before .before .before .loop .inv .2) (c .before .before .before .before .before .before .before .before .before .before .before .before .before .before .before .before .before .before .before .before .before .read-message .ensures .1 .1 .1) .2)
+loop-again c = (going-turn (c .before .before .before .before .before .before .before .before .before .before .before .before .before .before .before .before .before .before .before .before .before .before .before .before .before .loop .inv .0) (c .before .before .before .before .before .before .before .before .before .before .before .before .before .before .before .before .before .before .before .before .before .before .before .before .before .before .before .before .before .before .before .before .before .before .pre) (c .before .before .before .before .before .before .before .before .before .before .before .before .before .before .before .before .before .before .before .before .before .before .before .before .loop-test .taken) (c .before .before .before .before .before .before .before .before .before .before .before .before .before .before .before .before .before .before .before .before .before .read-message .ensures .0) (c .before .before .before .before .before .before .before .before .before .before .before .before .before .before .before .before .before .before .before .if2 .left) (plan-is (c .before .before .before .before .before .before .before .before .before .before .before .before .before)) (stored-all _ _ (client-is (c .before .before .before .before .before .before .before .before .before .before)) (bucket-is (c .before .before .before .before .before .before .before .before)) (tracker-is (c .before .before .before .before .before .before)) (c .before .before .before .before .before .before .before .before .before .before .before .before .count-on .ensures)) (c .before .before .pass-record .ensures .0) (c .before .before .pass-record .ensures .1), topic-has (c .before .before .before .before .before .before .before .before .before .before .before .before .before .before .before .before .before .before .before) .2, payload-has (c .before .before .before .before .before .before .before .before .before .before .before .before .before .before .before .before .before .before .before) .2)
 
 pass-closing-requires-3 : tie.Need-pass-closing-requires-3 Inv-loop μ-loop
 pass-closing-requires-3 c κs = (going-small (c .before .before .loop .inv .0), close-room (c .before .before .loop .inv .0) (c .before .before .before .before .before .before .before .before .before .before .before .pre) (left-end (c .before .before .before .before .before .before .before .before .before .before .before .args .text .now) (c .before .before .loop .line) (c .before .loop-test .left)))
