@@ -1,13 +1,14 @@
 //! compare [--seed N]: matching and hashes of the archive against the Rust original, answer by answer. Short inputs
 //! are tried exhaustively, others around every length that the monitor knows, by two seeds. The standard matcher has
-//! no original: it is held to a matcher written here from MQTT 3.1.1 section 4.7, level by level.
+//! no original: it is held to a matcher written here from MQTT 3.1.1 section 4.7, level by level, and to libmosquitto.
 
 mod hub;
 mod make;
+mod mosquitto;
 mod tally;
 
 use hub::ClientHashes;
-use make::{BLOCKS, LENGTHS, LIKE_NOBODY, SIGNS, pattern, topic};
+use make::{BLOCKS, LENGTHS, LIKE_NOBODY, SIGNS, pattern, short, topic};
 use std::fmt::Debug;
 use tally::{Class, Random};
 use vs_mqtt_monitor::{MqttMonitor, QosPolicy, TopicAction, client_hashes, opened};
@@ -22,6 +23,7 @@ fn main() {
         random_matching(&mut classes, seed);
     }
     collisions(&mut classes);
+    mosquitto::compare(&mut classes, seeds);
 
     let mut single = Single { inputs: inputs(seeds), classes };
     single.compare("fnv1a_hash", hub::fnv1a_hash, vs_types_embedded::fnv1a_hash);
@@ -65,17 +67,6 @@ fn standard(name: &[u8], pattern: &[u8]) -> bool {
 /// `standard` inside its domain, 9 outside; `refused` is the pattern's `refusal`.
 fn standard_answer(name: &[u8], pattern: &[u8], refused: u32) -> u32 {
     if name.is_empty() || refused != 0 { 9 } else { standard(name, pattern) as u32 }
-}
-
-/// Every string over `signs` of at most `longest` bytes, the short ones first.
-fn short(signs: &[u8], longest: usize) -> Vec<Vec<u8>> {
-    let mut all = vec![vec![]];
-    let mut last = all.clone();
-    for _ in 0..longest {
-        last = last.iter().flat_map(|start| signs.iter().map(|&sign| [&start[..], &[sign]].concat())).collect();
-        all.extend_from_slice(&last);
-    }
-    all
 }
 
 /// Both matchers on every pair of `strings`.

@@ -15,6 +15,17 @@ pub const BLOCKS: [[u8; 2]; 3] = [*b"Ez", *b"FY", *b"G8"];
 /// letters that bring djb2 to 0.
 pub const LIKE_NOBODY: &[u8] = b"FYFYEzG8FYEzEzG8EzG8G8G8EzG8G8G8G8G8EzG8G8EzCaDGLKK";
 
+/// Every string over `signs` of at most `longest` bytes, the short ones first.
+pub fn short(signs: &[u8], longest: usize) -> Vec<Vec<u8>> {
+    let mut all = vec![vec![]];
+    let mut last = all.clone();
+    for _ in 0..longest {
+        last = last.iter().flat_map(|start| signs.iter().map(|&sign| [&start[..], &[sign]].concat())).collect();
+        all.extend_from_slice(&last);
+    }
+    all
+}
+
 /// A pattern of `len` bytes: plain levels, mostly with wildcards put in their proper places, sometimes spoilt.
 pub fn pattern(random: &mut Random, len: usize) -> Vec<u8> {
     let mut pattern = random.bytes(len, b"ab/$abab");
