@@ -1,11 +1,14 @@
 // The published vectors, run: FNV-1a's own test strings and the worked examples of MQTT 3.1.1 section 4.7. Each line of standard input asks one thing
 // of quoted text and comes back with its answer in front:
 //     hash "TEXT"               FNV-1a of the text, 32 bits
+//     bytes "HEX"               the same of bytes that are not all text
 //     valid "FILTER"            whether the filter's wildcards are well placed
 //     match "FILTER" "NAME"     whether the filter takes the name, by the port and by the standard matcher (`out`: its number 9), and where they differ
 // Any other line is a heading. The answers are compared with the file `stdout`; what is proved here is that the program is safe and ends.
+use cut::upto;
 use libc::STDIN_FILENO;
 use libc::STDOUT_FILENO;
+use lines::value;
 use topics::hashes::fnv1a_hash;
 use topics::matching::StandardMatch;
 use topics::matching::standard_matches;
@@ -48,6 +51,9 @@ fn answer(line: &[u8]) {
         if word == b'h' {
             answer_hash(line);
         }
+        if word == b'b' {
+            answer_bytes(line);
+        }
         if word == b'v' {
             answer_valid(line);
         }
@@ -59,13 +65,29 @@ fn answer(line: &[u8]) {
     say(b"\n");
 }
 
-// The eight digits of a hash.
+// The hash of a text.
 fn answer_hash(line: &[u8]) {
     let text = quoted(line, 0);
     let from = text.from;
     let to = text.to;
-    let hash = fnv1a_hash(&line[from..to]);
-    io::print_hex(STDOUT_FILENO, hash as u64, 8);
+    say_hash(&line[from..to]);
+}
+
+// The hash of bytes in hex, where they are such and at most 512.
+fn answer_bytes(line: &[u8]) {
+    let digits = quoted(line, 0);
+    let from = digits.from;
+    let to = digits.to;
+    let mut bytes = [0u8; 512];
+    if value::hex(&line[from..to], &mut bytes) == 0 {
+        return say_hash(upto(&bytes, (to - from) / 2));
+    }
+    say(b"refused   ");
+}
+
+// The eight digits of a hash.
+fn say_hash(bytes: &[u8]) {
+    io::print_hex(STDOUT_FILENO, fnv1a_hash(bytes) as u64, 8);
     say(b"  ");
 }
 
