@@ -150,7 +150,7 @@ impl Matching {
     }
 
     /// One name and one filter. Where they are kept apart libmosquitto must say no, and we what it says of the name
-    /// with a letter in place of the dollar sign.
+    /// with a letter in place of the dollar sign; such a pair of answers is compared as one.
     fn compare(&mut self, name: &CStr, filter: &CStr) {
         let input = [name.to_bytes(), filter.to_bytes()];
         let ours = hub::standard_matches(input[0], input[1]);
