@@ -4,8 +4,9 @@
 
 use crate::make::LIKE_NOBODY;
 use crate::met::Met;
-use crate::scenes::{self, MAKERS, Pairs};
+use crate::scenes::{self, MAKERS, Pair, Pairs};
 use std::fmt::Write;
+use vs_mqtt_monitor::opened::djb2_hash;
 
 const CONNECT: u8 = 1;
 const PUBLISH: u8 = 3;
@@ -37,7 +38,9 @@ pub fn all() -> Vec<Chosen> {
     topics_and_rules(&mut list);
     refused(&mut list);
     rooms(&mut list);
-    by_makers(&mut list);
+    let pairs = Pairs::search();
+    equal_hashes(&mut list, &pairs);
+    by_makers(&mut list, &pairs);
     list
 }
 
@@ -229,7 +232,7 @@ fn trackers(list: &mut Vec<Chosen>) {
         "sizes-of-P12-and-on",
         &["kind 7"],
     );
-    // A size of 0 feeds nothing; a mean of 0 has no threshold.
+    // A size of 0 feeds nothing.
     let small = [1, 0, 1, 0, 1, 1, 1, 1, 1, 0, 1, 4, 5, 1, 1, 1, 1, 1, 1, 1, 1, 1, 1, 1, 1, 65_535];
     open().sizes(0, b"t", &small).end(list, "sizes-0-and-1", &["kind 7"]);
     open()
@@ -249,6 +252,14 @@ fn trackers(list: &mut Vec<Chosen>) {
     many.sizes(20, b"m/1", &[9; 7]).sizes(20, b"m/0", &[9; 8]).sizes(21, b"m/1", &[100]).sizes(21, b"m/0", &[100]).end(
         list,
         "seventeen-trackers",
+        &["kind 7", "tracker replaced"],
+    );
+    // Of trackers of one time the first is replaced: m/0, and not m/15.
+    let full =
+        names(0, 16).fold(open(), |s, name| s.sizes(0, name.as_bytes(), &[9; 8][..if name == "m/15" { 8 } else { 1 }]));
+    full.sizes(0, b"m/0", &[9; 7]).sizes(0, b"m/16", &[9]).sizes(0, b"m/15", &[100]).sizes(0, b"m/0", &[100]).end(
+        list,
+        "trackers-of-one-time-the-first-is-replaced",
         &["kind 7", "tracker replaced"],
     );
     // The sample count stops at 255: if it began again, a large size would be in the warm-up and not be told.
@@ -386,9 +397,25 @@ fn rooms(list: &mut Vec<Chosen>) {
     });
 }
 
+/// Names that share FNV-1a, and but for the last two djb2: by turns under one token each, or as clients.
+fn equal_hashes(list: &mut Vec<Chosen>, pairs: &Pairs) {
+    let by_turns = |[a, b]: &Pair| opening("allow", &["# allow any 1"]).each(PUBLISH, 0, 0, [a, b, a, b]);
+    let in_byte_32 = pairs.apart.iter().find(|[a, _]| a.len() > 32).expect("a pair that differs in byte 32");
+    by_turns(in_byte_32).end(list, "equal-hashes-apart-in-byte-32", &["kind 5"]);
+    by_turns(&pairs.by_length[0]).end(list, "equal-hashes-apart-by-length", &["kind 5"]);
+    by_turns(&pairs.one[0]).end(list, "equal-hashes-one-identity", &["kind 5"]);
+    let told = |pair: &&Pair| djb2_hash(&pair[0]) != djb2_hash(&pair[1]);
+    let [a, b] = pairs.by_djb2.iter().find(told).expect("a pair that differs in djb2");
+    by_turns(&[a.clone(), b.clone()]).end(list, "topics-apart-by-djb2", &["kind 5"]);
+    opening("allow", &[]).at(CONNECT, &[0; 4], a).at(CONNECT, &[0], b).at(CONNECT, &[0], a).end(
+        list,
+        "clients-apart-by-djb2",
+        &["kind 1"],
+    );
+}
+
 /// The first forty messages of some random makers' traces, by the first seed from 1 on that meets what the maker must.
-fn by_makers(list: &mut Vec<Chosen>) {
-    let pairs = Pairs::search();
+fn by_makers(list: &mut Vec<Chosen>, pairs: &Pairs) {
     for name in [
         "a clock that goes back",
         "CONNECT storms",
@@ -398,7 +425,7 @@ fn by_makers(list: &mut Vec<Chosen>) {
         "all at once",
     ] {
         let maker = MAKERS.iter().find(|maker| maker.0 == name).expect(name);
-        let seeded = |seed| shortened(&scenes::make(maker, seed, &pairs), 40);
+        let seeded = |seed| shortened(&scenes::make(maker, seed, pairs), 40);
         let meets = |text: &Vec<u8>| {
             let mut met = Met::default();
             met.expected(text);
