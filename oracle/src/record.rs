@@ -15,11 +15,25 @@
 //!   b TOPIC 0|1           is_broad_wildcard_subscribe
 //!   x TOPIC 0|1           contains_invalid_publish_char
 //!   $ TOPIC 0|1           starts_with_dollar
+//! Whole traces (`chosen` says which, and why they are enough) have a name, then their text with `;` for each LF, and
+//! the answer in the same way with the number, the line and the length that are handed back:
+//!   t NAME TEXT ANSWER NUMBER LINE LENGTH              with room enough
+//!   h NAME BYTES ANSWER NUMBER LINE LENGTH             the same for a text with bytes that a line cannot have
+//!   l NAME SIZE START PART ANSWER NUMBER LINE LENGTH   the same, the text being START and then PART over and over,
+//!                                                      SIZE bytes in all
+//!   o NAME ROOM TEXT BYTES NUMBER LINE LENGTH          BYTES is all of a room of so many bytes, which was full of
+//!                                                      dots; that a short one is refused with 28 is document 01's
+//!                                                      word, not the original's, which has no such room
 
+mod chosen;
 mod make;
+mod met;
+mod scenes;
 mod tally;
 
+use chosen::{Chosen, Form};
 use make::{BLOCKS, LENGTHS, LIKE_NOBODY};
+use met::Met;
 use vs_mqtt_monitor::{MqttMonitor, QosPolicy, TopicAction, client_hashes, opened};
 use vs_types_embedded::{compute_payload_hash, fnv1a_hash};
 
@@ -85,6 +99,13 @@ fn main() {
         }
     }
     hashes(LIKE_NOBODY);
+    let mut met = Met::default();
+    for chosen in chosen::all() {
+        whole_trace(&chosen, &mut met);
+    }
+    for what in met::all() {
+        assert!(met.times(what) > 0, "no trace meets: {what}");
+    }
 }
 
 /// `len` bytes of plain text that end in `end`.
@@ -122,4 +143,58 @@ fn topic_tests(topic: &[u8]) {
     println!("b {text} {}", opened::is_broad_wildcard_subscribe(topic) as u8);
     println!("x {text} {}", opened::contains_invalid_publish_char(topic) as u8);
     println!("$ {text} {}", opened::starts_with_dollar(topic) as u8);
+}
+
+/// One trace, which must meet what it is there for.
+fn whole_trace(chosen: &Chosen, met: &mut Met) {
+    let before: Vec<u64> = chosen.must.iter().map(|what| met.times(what)).collect();
+    let name = &chosen.name;
+    match &chosen.form {
+        Form::Text(text) => {
+            let (kind, text, answer) = match spelled(text) {
+                Some(line) => ('t', line, answer(text, None, met)),
+                None => ('h', hex(text), answer(text, None, met)),
+            };
+            println!("{kind} {name} {text} {answer}");
+        }
+        Form::Room(room, text) => {
+            println!("o {name} {room} {} {}", plain(text), answer(text, Some(*room), met));
+        }
+        Form::Long(size, start, part) => {
+            let text: Vec<u8> = start.iter().chain(part.iter().cycle()).take(*size).copied().collect();
+            println!("l {name} {size} {} {} {}", plain(start), plain(part), answer(&text, None, met));
+        }
+    }
+    for (what, before) in chosen.must.iter().zip(before) {
+        assert!(met.times(what) > before, "{name} does not meet: {what}");
+    }
+}
+
+/// A text on one line, if that can be.
+fn spelled(text: &[u8]) -> Option<String> {
+    let fits = |&byte: &u8| byte == b'\n' || (byte.is_ascii_graphic() && byte != b';');
+    let line = || String::from_utf8_lossy(text).replace('\n', ";");
+    match text {
+        b"" => Some("-".into()),
+        b"-" => None,
+        _ => text.iter().all(fits).then(line),
+    }
+}
+
+/// The same for a text that must be one.
+fn plain(text: &[u8]) -> String {
+    spelled(text).expect("a text that fits a line")
+}
+
+/// What the original says to a trace, and how it ended, with a room of so many bytes or with all that it takes.
+fn answer(text: &[u8], room: Option<usize>, met: &mut Met) -> String {
+    let (end, mut out) = met.expected(text);
+    let room = room.unwrap_or(out.len());
+    if room < out.len() {
+        met.count("end 28", 1);
+        return format!("{} 28 0 0", ".".repeat(room));
+    }
+    let length = out.len();
+    out.resize(room, b'.');
+    format!("{} {} {} {length}", plain(&out), end.number, end.line)
 }

@@ -43,16 +43,16 @@ pub const CLOCK: Maker = ("the original's own verdicts", real_clock, &["kind 1",
 /// Pairs of topics with equal FNV-1a, and but for the last with equal djb2 too.
 pub struct Pairs {
     /// Equal length, different among the first 32 bytes or just in the last of them: two identities.
-    apart: Vec<Pair>,
+    pub apart: Vec<Pair>,
     /// Equal length and first 32 bytes: one identity.
-    one: Vec<Pair>,
+    pub one: Vec<Pair>,
     /// Equal first 32 bytes and suffix hash: two identities by their length alone.
-    by_length: Vec<Pair>,
+    pub by_length: Vec<Pair>,
     /// Two clients, by their djb2 alone.
-    by_djb2: Vec<Pair>,
+    pub by_djb2: Vec<Pair>,
 }
 
-type Pair = [Vec<u8>; 2];
+pub type Pair = [Vec<u8>; 2];
 
 impl Pairs {
     pub fn search() -> Pairs {

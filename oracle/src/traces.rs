@@ -4,15 +4,15 @@
 mod damage;
 mod hub;
 mod make;
+mod met;
 mod scenes;
 mod tally;
 
 use hub::HubTrace;
+use met::Met;
 use scenes::{CLOCK, MAKERS, Maker, Pairs};
-use std::collections::BTreeMap;
 use tally::{Class, Random};
 use trace::End;
-use vs_mqtt_monitor::{MqttInspectResult, MqttMonitor, opened};
 
 /// Traces of each maker, for each seed.
 const TURNS: usize = 100;
@@ -25,19 +25,11 @@ const EXAMPLE_ANSWER: &str = "n=1\nallowed=1\nalerts=0\nn=2\nallowed=0\nalerts=1
     hash=0000000000000000000000000000000000000000000000000000000000000000\n\
     end=0\nline=20\ninspected=2\ntotal=1\n";
 
-/// What a run must have met.
-const KINDS: [&str; 12] = [
-    "kind 0", "kind 1", "kind 2", "kind 3", "kind 4", "kind 5", "kind 6", "kind 7", "kind 8", "kind 9", "kind 10",
-    "kind 11",
-];
-const PLACES: [&str; 4] = ["bucket replaced", "bucket expired", "client replaced", "tracker replaced"];
-const ENDS: [&str; 9] = ["end 0", "end 9", "end 21", "end 22", "end 23", "end 24", "end 25", "end 26", "end 27"];
-
 fn main() {
     let words: Vec<String> = std::env::args().skip(1).collect();
     let seeds = tally::seeds(&words);
     let pairs = Pairs::search();
-    let mut run = Run { met: BTreeMap::new(), classes: Vec::new() };
+    let mut run = Run { met: Met::default(), classes: Vec::new() };
     run.example();
     for seed in seeds {
         let mut random = Random(seed);
@@ -54,65 +46,11 @@ fn main() {
 
 /// The classes so far, and how often each thing was met.
 struct Run {
-    met: BTreeMap<&'static str, u64>,
+    met: Met,
     classes: Vec<Class>,
 }
 
 impl Run {
-    fn count(&mut self, what: &'static str, times: u64) {
-        *self.met.entry(what).or_default() += times;
-    }
-
-    fn times(&self, what: &str) -> u64 {
-        self.met.get(what).copied().unwrap_or(0)
-    }
-
-    /// The answer of the Rust driver; what happened in it is counted.
-    fn expected(&mut self, text: &[u8]) -> (End, Vec<u8>) {
-        let mut out = Vec::new();
-        let mut before = [None; 64];
-        let end = trace::run_watched(text, &mut out, |monitor, result| {
-            self.count("messages", 1);
-            self.count_alerts(result);
-            before = self.count_places(before, monitor, result);
-        });
-        self.count("traces", 1);
-        let name = ENDS.iter().find(|name| name[4..] == end.number.to_string());
-        self.count(name.expect("an end that document 01 has"), 1);
-        (end, out)
-    }
-
-    fn count_alerts(&mut self, result: &MqttInspectResult) {
-        assert_eq!(result.alerts_dropped, 0);
-        for alert in &result.alerts[..result.alert_count as usize] {
-            self.count(KINDS[alert.source_id as usize], 1);
-        }
-        self.count("four alerts at once", (result.alert_count == 4).into());
-    }
-
-    /// Counts the places that went from one holder to another.
-    fn count_places(
-        &mut self,
-        before: [opened::Holder; 64],
-        monitor: &MqttMonitor,
-        result: &MqttInspectResult,
-    ) -> [opened::Holder; 64] {
-        let now = opened::holders(monitor);
-        let replaced = result.alerts.iter().any(|alert| alert.source_id == 6);
-        for place in (0..64).filter(|&place| before[place].is_some() && before[place] != now[place]) {
-            self.count(
-                match place {
-                    0..32 if replaced => "bucket replaced",
-                    0..32 => "bucket expired",
-                    32..48 => "client replaced",
-                    _ => "tracker replaced",
-                },
-                1,
-            );
-        }
-        now
-    }
-
     fn example(&mut self) {
         let mut class = Class::new("document 01's example, and every small damage of it");
         let mut out = Vec::new();
@@ -129,7 +67,7 @@ impl Run {
     fn scene(&mut self, maker: &Maker, seed: u64, random: &mut Random, pairs: &Pairs) {
         let mut whole = Class::new(format!("{}, seed {seed}", maker.0));
         let mut damaged = Class::new(format!("damaged: {}, seed {seed}", maker.0));
-        let before: Vec<u64> = maker.2.iter().map(|what| self.times(what)).collect();
+        let before: Vec<u64> = maker.2.iter().map(|what| self.met.times(what)).collect();
         let mut texts = Vec::new();
         for _ in 0..TURNS {
             let text = scenes::make(maker, random.next(), pairs);
@@ -138,7 +76,7 @@ impl Run {
             texts.push(text);
         }
         for (what, before) in maker.2.iter().zip(before) {
-            whole.seen(what, self.times(what) - before);
+            whole.seen(what, self.met.times(what) - before);
         }
         for text in texts {
             self.compare(&mut damaged, &damage::one(random, &text), 0);
@@ -150,7 +88,7 @@ impl Run {
     /// the original, which finds them itself.
     fn clock(&mut self, seed: u64, random: &mut Random, pairs: &Pairs) {
         let mut class = Class::new(format!("{}, seed {seed}", CLOCK.0));
-        let before: Vec<u64> = CLOCK.2.iter().map(|what| self.times(what)).collect();
+        let before: Vec<u64> = CLOCK.2.iter().map(|what| self.met.times(what)).collect();
         for _ in 0..TURNS {
             let text = scenes::make(&CLOCK, random.next(), pairs);
             self.compare(&mut class, &text, 0);
@@ -160,33 +98,27 @@ impl Run {
             assert!(told == found, "the two variants of the original differ");
         }
         for (what, before) in CLOCK.2.iter().zip(before) {
-            class.seen(what, self.times(what) - before);
+            class.seen(what, self.met.times(what) - before);
         }
         self.classes.push(class);
     }
 
     /// Compares the answers to one text: into a buffer with `spare` bytes too many, and into ones that are too short.
     fn compare(&mut self, class: &mut Class, text: &[u8], spare: usize) {
-        let (end, expected) = self.expected(text);
+        let (end, expected) = self.met.expected(text);
         if difference(text, end, &expected, spare).is_some() {
             let smaller = if class.clean() { shrink(text, spare) } else { text.to_vec() };
             class.differ(smaller.len(), || saved(&smaller, spare, self.classes.len()));
         }
         class.agree();
-        self.count("end 28", 3);
+        self.met.count("end 28", 3);
     }
 
     /// One class for all that a run must have met.
     fn met(&mut self) {
         let mut class = Class::new("all that the traces must have met");
-        let names = KINDS[1..].iter().chain(&PLACES).chain(&ENDS).chain(&[
-            "end 28",
-            "four alerts at once",
-            "traces",
-            "messages",
-        ]);
-        for name in names {
-            class.seen(name, self.times(name));
+        for name in met::all() {
+            class.seen(name, self.met.times(name));
             class.agree();
         }
         self.classes.push(class);

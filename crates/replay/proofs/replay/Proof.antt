@@ -1,16 +1,17 @@
--- `replay::replay` is safe and ends. The invariant: each line that was read took at least one byte, so that their number fits; the measure: the bytes that are left.
--- Assumes nothing.
+-- `replay::replay` is safe and ends. The invariant: each line that was read took at least one byte, so that their number fits, and both rooms are as long as before; the measure:
+-- the bytes that are left. Assumes nothing.
 use Prim.Native.Nat.{_+_, _≤_}
+use mathlib.Core.Path.{_≡_}
 use lib.ListN.{length}
 use borrow.Author.Needs.{needs}
 use Rattle.replay.proofs.replay.Statement.{statement}
 use Rattle.replay.proofs.replay.Tie as tie
 
 abbrev Inv-loop : tie.InvT-loop
-Inv-loop text asked₀ differ₀ number₀ left₀ asked differ number left = number + length left ≤ length text
+Inv-loop questions text₀ out₀ asked₀ differ₀ number₀ left₀ text out asked differ number left = (number + length left ≤ length questions) × (length text ≡ length text₀) × (length out ≡ length out₀)
 
 abbrev μ-loop : tie.MeasureT-loop
-μ-loop text asked₀ differ₀ number₀ left₀ asked differ number left = length left
+μ-loop questions text₀ out₀ asked₀ differ₀ number₀ left₀ text out asked differ number left = length left
 
 loop-holds : tie.Need-loop-holds Inv-loop μ-loop
 loop-holds c = search needs
@@ -48,6 +49,12 @@ loop-again c = search needs
 say-all-requires : tie.Need-say-all-requires Inv-loop μ-loop
 say-all-requires c κs = search needs
 
+same-length : tie.Need-same-length Inv-loop μ-loop
+same-length c = search needs
+
+same-length-2 : tie.Need-same-length-2 Inv-loop μ-loop
+same-length-2 c = search needs
+
 returns : tie.Need-returns Inv-loop μ-loop
 returns c = search needs
 
@@ -69,4 +76,6 @@ replay-spec =
     loop-less
     loop-again
     say-all-requires
+    same-length
+    same-length-2
     returns)

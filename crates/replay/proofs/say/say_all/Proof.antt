@@ -1,14 +1,14 @@
--- `replay::say_all` is safe and ends. The invariant: at most 12 kinds were told; the measure: the kinds that are left. Assumes nothing.
+-- `replay::say::say_all` is safe and ends. The invariant: at most 16 kinds were told; the measure: the kinds that are left. Assumes nothing.
 use Prim.Native.Nat.{_≤_, _-_}
 use borrow.Author.Needs.{needs}
-use Rattle.replay.proofs.say_all.Statement.{statement}
-use Rattle.replay.proofs.say_all.Tie as tie
+use Rattle.replay.proofs.say.say_all.Statement.{statement}
+use Rattle.replay.proofs.say.say_all.Tie as tie
 
 abbrev Inv-loop : tie.InvT-loop
-Inv-loop asked differ all₀ wrong₀ k₀ t8 t9 all wrong k = k ≤ 12
+Inv-loop asked differ all₀ wrong₀ k₀ t8 t9 all wrong k = k ≤ 16
 
 abbrev μ-loop : tie.MeasureT-loop
-μ-loop asked differ all₀ wrong₀ k₀ t8 t9 all wrong k = 12 - k
+μ-loop asked differ all₀ wrong₀ k₀ t8 t9 all wrong k = 16 - k
 
 loop-holds : tie.Need-loop-holds Inv-loop μ-loop
 loop-holds c = search needs

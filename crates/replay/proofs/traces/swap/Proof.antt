@@ -1,0 +1,66 @@
+-- `replay::traces::swap` is safe and ends. The invariant: the bytes are as many as before; the measure: those that are left. Assumes nothing.
+use Prim.Native.Nat.{_-_}
+use mathlib.Core.Path.{_≡_}
+use native.Mathlib.Omega.{arith}
+use borrow.Author.Tests.{ltb-true}
+use lib.ListN.{length, length-set}
+use borrow.Author.Needs.{needs}
+use Rattle.replay.proofs.traces.swap.Statement.{statement}
+use Rattle.replay.proofs.traces.swap.Tie as tie
+
+abbrev Inv-loop : tie.InvT-loop
+Inv-loop s₀ n old new i₀ s i = length s ≡ length s₀
+
+abbrev μ-loop : tie.MeasureT-loop
+μ-loop s₀ n old new i₀ s i = n - i
+
+loop-holds : tie.Need-loop-holds Inv-loop μ-loop
+loop-holds c = search needs
+
+slice-read-swapped : tie.Need-slice-read-swapped Inv-loop μ-loop
+slice-read-swapped c = omega (arith, ltb-true)
+
+swapped-requires : tie.Need-swapped-requires Inv-loop μ-loop
+swapped-requires c κs = search needs
+
+slice-write-s : tie.Need-slice-write-s Inv-loop μ-loop
+slice-write-s c = omega (arith, ltb-true)
+
+add-i : tie.Need-add-i Inv-loop μ-loop
+add-i c = omega (arith, ltb-true)
+
+loop-less : tie.Need-loop-less Inv-loop μ-loop
+loop-less c = omega arith
+
+loop-again : tie.Need-loop-again Inv-loop μ-loop
+loop-again c = simp length-set (c .before .before .before .before .loop .inv)
+
+same-length : tie.Need-same-length Inv-loop μ-loop
+same-length c = search needs
+
+returns : tie.Need-returns Inv-loop μ-loop
+returns c = search needs
+
+same-length-2 : tie.Need-same-length-2 Inv-loop μ-loop
+same-length-2 c = search needs
+
+returns-2 : tie.Need-returns-2 Inv-loop μ-loop
+returns-2 c = search needs
+
+pub swap-spec : {M : Type 1} → statement M
+swap-spec =
+    tie.close
+    (tie.spec
+    Inv-loop
+    μ-loop
+    loop-holds
+    slice-read-swapped
+    swapped-requires
+    slice-write-s
+    add-i
+    loop-less
+    loop-again
+    same-length
+    returns
+    same-length-2
+    returns-2)

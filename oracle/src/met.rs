@@ -1,0 +1,93 @@
+//! What traces met on their way through the Rust original: kinds of alerts, ends, places that changed hands. A
+//! comparison or a record that should reach all of them counts here, so that what it missed is a failure.
+
+use std::collections::BTreeMap;
+use trace::End;
+use vs_mqtt_monitor::{MqttInspectResult, MqttMonitor, opened};
+
+const KINDS: [&str; 12] = [
+    "kind 0", "kind 1", "kind 2", "kind 3", "kind 4", "kind 5", "kind 6", "kind 7", "kind 8", "kind 9", "kind 10",
+    "kind 11",
+];
+const PLACES: [&str; 4] = ["bucket replaced", "bucket expired", "client replaced", "tracker replaced"];
+const ENDS: [&str; 9] = ["end 0", "end 9", "end 21", "end 22", "end 23", "end 24", "end 25", "end 26", "end 27"];
+
+/// How often each thing was met.
+#[derive(Default)]
+pub struct Met(BTreeMap<&'static str, u64>);
+
+/// What all traces together must have met: 28 is counted by those who lend a room that is too short.
+pub fn all() -> impl Iterator<Item = &'static str> {
+    let more =
+        ["end 28", "four alerts at once", "hash in an alert", "rule overwritten", "clock back", "traces", "messages"];
+    KINDS[1..].iter().copied().chain(PLACES).chain(ENDS).chain(more)
+}
+
+/// The values of all lines with this key.
+fn values<'a>(text: &'a [u8], key: &'a [u8]) -> impl Iterator<Item = &'a str> {
+    let lines = text.split(|&byte| byte == b'\n');
+    lines.filter_map(move |line| std::str::from_utf8(line.strip_prefix(key)?).ok())
+}
+
+impl Met {
+    pub fn count(&mut self, what: &'static str, times: u64) {
+        *self.0.entry(what).or_default() += times;
+    }
+
+    pub fn times(&self, what: &str) -> u64 {
+        self.0.get(what).copied().unwrap_or(0)
+    }
+
+    /// The answer of the Rust driver; what happened in it is counted.
+    pub fn expected(&mut self, text: &[u8]) -> (End, Vec<u8>) {
+        let mut out = Vec::new();
+        let mut before = [None; 64];
+        let mut times = values(text, b"at=");
+        let (mut last, rules) = (0, values(text, b"pattern=").count());
+        let end = trace::run_watched(text, &mut out, |monitor, result| {
+            let now = times.next().and_then(|at| at.parse::<u64>().ok()).expect("a message has its time");
+            self.count("clock back", (now < last).into());
+            last = now;
+            self.count("rule overwritten", (monitor.rule_count() < rules).into());
+            self.count("messages", 1);
+            self.count_alerts(result);
+            before = self.count_places(before, monitor, result);
+        });
+        self.count("traces", 1);
+        let name = ENDS.iter().find(|name| name[4..] == end.number.to_string());
+        self.count(name.expect("an end that document 01 has"), 1);
+        (end, out)
+    }
+
+    fn count_alerts(&mut self, result: &MqttInspectResult) {
+        assert_eq!(result.alerts_dropped, 0);
+        for alert in &result.alerts[..result.alert_count as usize] {
+            self.count(KINDS[alert.source_id as usize], 1);
+            self.count("hash in an alert", (alert.payload_hash.0 != [0; 32]).into());
+        }
+        self.count("four alerts at once", (result.alert_count == 4).into());
+    }
+
+    /// Counts the places that went from one holder to another.
+    fn count_places(
+        &mut self,
+        before: [opened::Holder; 64],
+        monitor: &MqttMonitor,
+        result: &MqttInspectResult,
+    ) -> [opened::Holder; 64] {
+        let now = opened::holders(monitor);
+        let replaced = result.alerts.iter().any(|alert| alert.source_id == 6);
+        for place in (0..64).filter(|&place| before[place].is_some() && before[place] != now[place]) {
+            self.count(
+                match place {
+                    0..32 if replaced => "bucket replaced",
+                    0..32 => "bucket expired",
+                    32..48 => "client replaced",
+                    _ => "tracker replaced",
+                },
+                1,
+            );
+        }
+        now
+    }
+}
