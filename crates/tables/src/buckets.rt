@@ -3,10 +3,10 @@ use crate::identity;
 use crate::identity::Id;
 ghost use mathlib.Core.Path.{_≡_};
 ghost use Prim.Native.Nat.{_+_, _-_, _*_, _/_, min};
-ghost use mathlib.Core.Bool.{not, _&&_};
+ghost use mathlib.Core.Bool.{cond, not, _&&_};
 ghost use Rattle.tables.specs.Scan.{find, leastOf, placeOf, any};
 ghost use Rattle.tables.specs.Identity.{isRemoved};
-ghost use Rattle.tables.specs.Buckets.{withTokens, refilled, takeToken, spend, isExpired, holdsBucket, made, decide, removedBucket, emptyBucket, bucketFine};
+ghost use Rattle.tables.specs.Buckets.{withTokens, refilled, takeToken, spend, isExpired, holdsBucket, made, newcomer, decide, removedBucket, emptyBucket, bucketFine};
 
 pub struct RateBucket {
     pub id: Id,
@@ -161,19 +161,24 @@ fn holds_bucket(id: Id, bucket: RateBucket) -> bool
     identity::is_of(id, held)
 }
 
-// The place of an identity's bucket; 32 where none is held.
-fn find_held(buckets: [RateBucket; 32], id: Id) -> usize
-    ensures { λ r. ⌜ r ≡ find (holdsBucket id) buckets ⌝ }
+// A message of an identity whose bucket is held at a place.
+fn spent_at(at: usize, held: RateBucket, now_us: u64) -> RateDecision
+    ensures { λ r. ⌜ r ≡ record { at = at; bucket = spend held «now_us» .bucket; result = cond (spend held «now_us» .ok) RateCheckResult.Allowed RateCheckResult.Limited } ⌝ }
 {
-    let mut i = 0;
-    while i < 32 {
-        let bucket = buckets[i];
-        if holds_bucket(id, bucket) {
-            return i;
-        }
-        i += 1;
+    let spent = consume(held, now_us);
+    let bucket = spent.bucket;
+    if spent.ok {
+        return RateDecision {
+            at,
+            bucket,
+            result: RateCheckResult::Allowed,
+        };
     }
-    i
+    RateDecision {
+        at,
+        bucket,
+        result: RateCheckResult::Limited,
+    }
 }
 
 // The first free place; 32 where there is none.
@@ -222,33 +227,10 @@ fn granted(at: usize, id: Id, rate: u16, now_us: u64) -> RateDecision
     }
 }
 
-// What the limiter decides on a message of an identity under a rate.
-pub fn rate_limit_check(
-    buckets: [RateBucket; 32],
-    id: Id,
-    max_rate: u16,
-    now_us: u64,
-) -> RateDecision
-    ensures { λ r. ⌜ r ≡ decide buckets id «max_rate» «now_us» ⌝ }
+// A message of a new identity: it gets the first free place, else that of the least refill time, whose bucket is expired or gives way.
+fn newcomer(buckets: [RateBucket; 32], id: Id, max_rate: u16, now_us: u64) -> RateDecision
+    ensures { λ r. ⌜ r ≡ newcomer buckets id «max_rate» «now_us» ⌝ }
 {
-    let held = find_held(buckets, id);
-    if held < 32 {
-        let bucket = buckets[held];
-        let spent = consume(bucket, now_us);
-        let next = spent.bucket;
-        if spent.ok {
-            return RateDecision {
-                at: held,
-                bucket: next,
-                result: RateCheckResult::Allowed,
-            };
-        }
-        return RateDecision {
-            at: held,
-            bucket: next,
-            result: RateCheckResult::Limited,
-        };
-    }
     let free = find_free(buckets);
     if free < 32 {
         return granted(free, id, max_rate, now_us);
@@ -264,6 +246,26 @@ pub fn rate_limit_check(
         bucket: emptied,
         result: RateCheckResult::EvictedAndDenied,
     }
+}
+
+// What the limiter decides on a message of an identity under a rate. A bucket is handed on where it is found: a second read would copy the table.
+pub fn rate_limit_check(
+    buckets: [RateBucket; 32],
+    id: Id,
+    max_rate: u16,
+    now_us: u64,
+) -> RateDecision
+    ensures { λ r. ⌜ r ≡ decide buckets id «max_rate» «now_us» ⌝ }
+{
+    let mut i = 0;
+    while i < 32 {
+        let bucket = buckets[i];
+        if holds_bucket(id, bucket) {
+            return spent_at(i, bucket, now_us);
+        }
+        i += 1;
+    }
+    newcomer(buckets, id, max_rate, now_us)
 }
 
 // A live bucket that the remove call asked for.

@@ -150,21 +150,6 @@ fn is_removed_tracker(tracker: EwmaTracker, id: Id) -> bool
     is_removed(id, held)
 }
 
-// The topic's own tracker; 16 where it has none.
-fn find_tracker(trackers: [EwmaTracker; 16], id: Id) -> usize
-    ensures { λ r. ⌜ r ≡ find (holdsTracker id) trackers ⌝ }
-{
-    let mut i: usize = 0;
-    while i < 16 {
-        let tracker = trackers[i];
-        if is_tracker(tracker, id) {
-            return i;
-        }
-        i += 1;
-    }
-    i
-}
-
 // The first free place; 16 where there is none.
 fn free_tracker(trackers: [EwmaTracker; 16]) -> usize
     ensures { λ r. ⌜ r ≡ find (λ k. not (k .active)) trackers ⌝ }
@@ -232,10 +217,13 @@ pub fn ewma_update(
 ) -> TrackerDecision
     ensures { λ r. ⌜ r ≡ feed trackers id «payload_len» «now_us» ⌝ }
 {
-    let held = find_tracker(trackers, id);
-    if held < 16 {
-        let tracker = trackers[held];
-        return feed_at(held, tracker, payload_len, now_us);
+    let mut i: usize = 0;
+    while i < 16 {
+        let tracker = trackers[i];
+        if is_tracker(tracker, id) {
+            return feed_at(i, tracker, payload_len, now_us);
+        }
+        i += 1;
     }
     let at = tracker_seat(trackers);
     feed_at(at, fresh_tracker(id), payload_len, now_us)

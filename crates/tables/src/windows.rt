@@ -114,21 +114,6 @@ fn is_client(entry: ClientStormEntry, hashes: ClientHashes) -> bool
     entry.client_hash2 == hashes.hash2
 }
 
-// The client's own window; 16 where it has none.
-fn find_client(clients: [ClientStormEntry; 16], hashes: ClientHashes) -> usize
-    ensures { λ r. ⌜ r ≡ find (holdsClient hashes) clients ⌝ }
-{
-    let mut i: usize = 0;
-    while i < 16 {
-        let entry = clients[i];
-        if is_client(entry, hashes) {
-            return i;
-        }
-        i += 1;
-    }
-    i
-}
-
 // The first free place; 16 where there is none.
 fn free_window(clients: [ClientStormEntry; 16]) -> usize
     ensures { λ r. ⌜ r ≡ find (λ e. not (e .active)) clients ⌝ }
@@ -203,10 +188,13 @@ pub fn record_connect(
 ) -> ConnectDecision
     ensures { λ r. ⌜ r ≡ connect clients hashes «now_us» threshold «window_us» ⌝ }
 {
-    let held = find_client(clients, hashes);
-    if held < 16 {
-        let entry = clients[held];
-        return connect_at(held, entry, now_us, threshold, window_us);
+    let mut i: usize = 0;
+    while i < 16 {
+        let entry = clients[i];
+        if is_client(entry, hashes) {
+            return connect_at(i, entry, now_us, threshold, window_us);
+        }
+        i += 1;
     }
     let at = window_seat(clients);
     connect_at(at, fresh_window(hashes), now_us, threshold, window_us)

@@ -1,113 +1,80 @@
--- `buckets::rate_limit_check` meets its contract: one law for each way through. Assumes nothing.
-use mathlib.Core.Path.{_≡_, sym, _∙_}
-use native.Mathlib.Omega.{arith}
-use lib.ListN.{length}
+-- `buckets::rate_limit_check` meets its contract: the identity is held, or it is new. The invariant: the search goes on behind the places passed. The measure is
+-- what is left of the table. Assumes nothing.
 use borrow.Author.Needs.{needs}
-use Rattle.tables.proofs.DecideLaws.{held-allowed, held-limited, new}
-use Rattle.tables.proofs.PlaceLaws.{oldest-lt, at-free, at-expired, at-least}
+use mathlib.Core.Path.{_≡_, sym, _∙_}
+use Prim.Native.Nat.{_+_, _-_, _≤_}
+use native.Mathlib.Omega.{arith}
+use lib.ListN.{length, drop}
+use Rattle.tables.specs.Scan.{find}
+use Rattle.tables.specs.Buckets.{noBucket, holdsBucket}
+use Rattle.tables.proofs.DecideLaws.{held, new}
+use Rattle.tables.proofs.ScanLaws.{find-here, find-next, find-done}
 use Rattle.tables.proofs.buckets.rate_limit_check.Statement.{statement}
 use Rattle.tables.proofs.buckets.rate_limit_check.Tie as tie
 
-find-held-requires : tie.Need-find-held-requires
-find-held-requires c κs = search needs
+abbrev Inv-loop : tie.InvT-loop
+Inv-loop id max-rate now-us buckets i₀ i = (i ≤ 32) × (find (holdsBucket id) buckets ≡ i + find (holdsBucket id) (drop i buckets))
 
-mul-bucket : tie.Need-mul-bucket
+abbrev μ-loop : tie.MeasureT-loop
+μ-loop id max-rate now-us buckets i₀ i = 32 - i
+
+loop-holds : tie.Need-loop-holds Inv-loop μ-loop
+loop-holds c = search needs
+
+mul-bucket : tie.Need-mul-bucket Inv-loop μ-loop
 mul-bucket c = search needs
 
-array-copy-out-bucket : tie.Need-array-copy-out-bucket
+array-copy-out-bucket : tie.Need-array-copy-out-bucket Inv-loop μ-loop
 array-copy-out-bucket c = search needs
 
-consume-requires : tie.Need-consume-requires
-consume-requires c κs = search needs
+holds-bucket-requires : tie.Need-holds-bucket-requires Inv-loop μ-loop
+holds-bucket-requires c κs = search needs
 
-returns : tie.Need-returns
+spent-at-requires : tie.Need-spent-at-requires Inv-loop μ-loop
+spent-at-requires c κs = search needs
+
+returns : tie.Need-returns Inv-loop μ-loop
 returns c =
-    let k = c .before .before in
-    let s = k .before .before .before in
-    let n : length (s .before .args .t1) ≡ 32 = search needs in
-    held-allowed _ _ _ _ (s .find-held .ensures) (omega arith) (k .consume .ensures) (c .if2 .taken)
+    let l = c .before .before .before .before .before in
+    let n : length (l .before .args .t1) ≡ 32 = search needs in
+    c .spent-at .ensures
+    ∙ sym (held _ _ _ _ (find-here _ _ noBucket (omega arith) (l .loop .inv .1) (sym (c .before .before .holds-bucket .ensures) ∙ c .before .if1 .taken)) (omega arith))
 
-returns-2 : tie.Need-returns-2
+add-i : tie.Need-add-i Inv-loop μ-loop
+add-i c = search needs
+
+loop-less : tie.Need-loop-less Inv-loop μ-loop
+loop-less c = search needs
+
+loop-again : tie.Need-loop-again Inv-loop μ-loop
+loop-again c =
+    let l = c .before .before .before .before in
+    let n : length (l .before .args .t1) ≡ 32 = search needs in
+    (omega arith, find-next _ _ noBucket (omega arith) (l .loop .inv .1) (sym (c .before .holds-bucket .ensures) ∙ c .if1 .left))
+
+newcomer-requires : tie.Need-newcomer-requires Inv-loop μ-loop
+newcomer-requires c κs = search needs
+
+returns-2 : tie.Need-returns-2 Inv-loop μ-loop
 returns-2 c =
-    let k = c .before .before in
-    let s = k .before .before .before in
-    let n : length (s .before .args .t1) ≡ 32 = search needs in
-    held-limited _ _ _ _ (s .find-held .ensures) (omega arith) (k .consume .ensures) (c .if2 .left)
-
-find-free-requires : tie.Need-find-free-requires
-find-free-requires c κs = search needs
-
-granted-requires : tie.Need-granted-requires
-granted-requires c κs = search needs
-
-returns-3 : tie.Need-returns-3
-returns-3 c =
-    let f = c .before .before in
-    let s = f .before .before in
-    let n : length (s .before .args .t1) ≡ 32 = search needs in
-    c .granted .ensures ∙ at-free _ _ _ _ (f .find-free .ensures) (omega arith) ∙ sym (new _ _ _ _ (s .find-held .ensures) (omega arith))
-
-find-oldest-requires : tie.Need-find-oldest-requires
-find-oldest-requires c κs = search needs
-
-mul-bucket-2 : tie.Need-mul-bucket-2
-mul-bucket-2 c =
-    let s = c .before .before .before .before .before in
-    let n : length (s .args .t1) ≡ 32 = search needs in omega (arith, oldest-lt (s .args .t1) n (c .find-oldest .ensures))
-
-array-copy-out-bucket-2 : tie.Need-array-copy-out-bucket-2
-array-copy-out-bucket-2 c =
-    let n : length (c .before .before .before .before .before .args .t1) ≡ 32 = search needs in oldest-lt _ n (c .find-oldest .ensures)
-
-is-expired-requires : tie.Need-is-expired-requires
-is-expired-requires c κs = search needs
-
-granted-requires-2 : tie.Need-granted-requires-2
-granted-requires-2 c κs = search needs
-
-returns-4 : tie.Need-returns-4
-returns-4 c =
-    let x = c .before .before in
-    let o = x .before .before in
-    let f = o .before .before in
-    let s = f .before .before in
-    let n : length (s .before .args .t1) ≡ 32 = search needs in
-    c .granted2 .ensures
-    ∙ at-expired _ _ _ _ (f .find-free .ensures) (omega arith) (o .find-oldest .ensures) (omega arith) (sym (x .is-expired .ensures) ∙ c .before .if4 .taken)
-    ∙ sym (new _ _ _ _ (s .find-held .ensures) (omega arith))
-
-make-requires : tie.Need-make-requires
-make-requires c κs = search needs
-
-returns-5 : tie.Need-returns-5
-returns-5 c =
-    let x = c .before .before in
-    let o = x .before .before in
-    let f = o .before .before in
-    let s = f .before .before in
-    let n : length (s .before .args .t1) ≡ 32 = search needs in
-    rw (c .make .ensures)
-    (at-least _ _ _ _ (f .find-free .ensures) (omega arith) (o .find-oldest .ensures) (omega arith) (sym (x .is-expired .ensures) ∙ c .before .if4 .left)
-    ∙ sym (new _ _ _ _ (s .find-held .ensures) (omega arith)))
+    let l = c .before .before in
+    let n : length (l .before .args .t1) ≡ 32 = search needs in
+    c .newcomer .ensures ∙ sym (new _ _ _ _ (find-done _ _ (omega arith) (omega arith) (l .loop .inv .1)) (omega arith))
 
 pub rate-limit-check-spec : {M : Type 1} → statement M
 rate-limit-check-spec =
     tie.close
     (tie.spec
-    find-held-requires
+    Inv-loop
+    μ-loop
+    loop-holds
     mul-bucket
     array-copy-out-bucket
-    consume-requires
+    holds-bucket-requires
+    spent-at-requires
     returns
-    returns-2
-    find-free-requires
-    granted-requires
-    returns-3
-    find-oldest-requires
-    mul-bucket-2
-    array-copy-out-bucket-2
-    is-expired-requires
-    granted-requires-2
-    returns-4
-    make-requires
-    returns-5)
+    add-i
+    loop-less
+    loop-again
+    newcomer-requires
+    returns-2)
