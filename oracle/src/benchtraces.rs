@@ -12,7 +12,7 @@ mod stack;
 mod tally;
 
 use rows::row;
-use scenes::{MAKERS, Pairs};
+use scenes::{MAKERS, NIGHT, Pairs};
 use std::fmt::Write;
 use std::hint::black_box;
 use std::path::Path;
@@ -44,11 +44,12 @@ fn messages(text: &[u8]) -> usize {
     if end.number == 0 { count } else { 0 }
 }
 
-/// One long trace of every maker, and one by hand.
+/// One long trace of every maker, a full one, and one by hand.
 fn write_traces(folder: &Path) {
     let pairs = Pairs::search();
     let write = |name: &str, text: &[u8]| std::fs::write(folder.join(name), text).unwrap();
     write("32 rules with limiter and tracker", &busy());
+    write(NIGHT.0, &scenes::make(&NIGHT, tally::FIXED_SEED, &pairs));
     for maker in MAKERS.iter().filter(|maker| maker.0 != "small") {
         let mut texts = (tally::FIXED_SEED..).map(|seed| scenes::make(maker, seed, &pairs));
         write(maker.0, &texts.find(|text| messages(text) >= 50).unwrap());

@@ -40,6 +40,9 @@ pub const MAKERS: &[Maker] = &[
 /// The maker for the original's own TimestampValidator.
 pub const CLOCK: Maker = ("the original's own verdicts", real_clock, &["kind 1", "kind 5", "kind 8"]);
 
+/// The maker of the one trace that the programs are measured with.
+pub const NIGHT: Maker = ("a full night", night, &[]);
+
 /// Pairs of topics with equal FNV-1a, and but for the last with equal djb2 too.
 pub struct Pairs {
     /// Equal length, different among the first 32 bytes or just in the last of them: two identities.
@@ -193,6 +196,18 @@ impl Scene<'_> {
     fn size(&mut self) -> u16 {
         let any = self.random.next() as u16;
         self.random.pick(&[0, 1, 2, 10, 40, 41, 255, 256, 257, 65_534, 65_535, any])
+    }
+
+    /// Fills what is left up to `goal`, some 100 to 600 bytes, with one or two messages: a payload by two digits a byte, the
+    /// time by one more digit.
+    fn fill(&mut self, goal: usize) {
+        let least = "at=1\nclock=ok\ntype=3\nqos=0\ntopic=\nsize=0\npayload=\n".len();
+        while self.text.len() < goal {
+            let room = goal - self.text.len() - least;
+            let payload = if room > 512 { "61".repeat(100) } else { "61".repeat(room / 2) };
+            let at = if room <= 512 && room % 2 == 1 { "10" } else { "1" };
+            write!(self.text, "at={at}\nclock=ok\ntype=3\nqos=0\ntopic=\nsize=0\npayload={payload}\n").unwrap();
+        }
     }
 }
 
@@ -525,18 +540,46 @@ fn longest(scene: &mut Scene) {
         let size = scene.size();
         scene.message(PUBLISH, scene.text.len() as u64 * 20_000, topic.as_bytes(), size, b"");
     }
-    // The last one or two fill what is left: a payload by two digits a byte, the time by one more digit.
-    let least = "at=1\nclock=ok\ntype=3\nqos=0\ntopic=\nsize=0\npayload=\n".len();
-    while scene.text.len() < goal {
-        let room = goal - scene.text.len() - least;
-        let payload = if room > 512 { "61".repeat(100) } else { "61".repeat(room / 2) };
-        let at = if room <= 512 && room % 2 == 1 { "10" } else { "1" };
-        write!(scene.text, "at={at}\nclock=ok\ntype=3\nqos=0\ntopic=\nsize=0\npayload={payload}\n").unwrap();
-    }
+    scene.fill(goal);
     if scene.random.one_in(3) {
         let more = scene.random.pick(&[1, 2, 100, 1_000_000]) + LONGEST - goal;
         scene.text.extend(vec![b'\n'; more]);
     }
+}
+
+/// A whole trace of exactly the longest length, as a site would see it: mounts, cameras and a dome under eight rules, most
+/// messages within their rates; now and then a CONNECT, a SUBSCRIBE, a topic that is blocked or that no rule knows.
+fn night(scene: &mut Scene) {
+    let rules = [
+        allow(b"site/+/mount/ra", 2),
+        allow(b"site/+/mount/dec", 2),
+        Rule { qos: "min1", ..allow(b"site/+/mount/slew", 1) },
+        allow(b"site/+/camera/#", 5),
+        Rule { qos: "only2", ..allow(b"site/dome/shutter", 1) },
+        allow(b"site/dome/+", 0),
+        Rule { block: true, ..allow(b"site/+/admin/#", 0) },
+        allow(b"$SYS/#", 1),
+    ];
+    scene.opening(0, &rules);
+    let mut now = 1_000_000;
+    while LONGEST - scene.text.len() > 600 {
+        now += scene.random.below(200_000) as u64;
+        let pier = scene.random.pick(&["north", "south", "east"]);
+        let (kind, topic) = match scene.random.below(32) {
+            0 => (CONNECT, format!("mount-{pier}")),
+            1 => (SUBSCRIBE, format!("site/{pier}/#")),
+            2 => (PUBLISH, format!("site/{pier}/admin/reset")),
+            3 => (PUBLISH, format!("guest/{pier}")),
+            4..=6 => (PUBLISH, scene.random.pick(&["site/dome/shutter", "site/dome/azimuth", "$SYS/uptime"]).into()),
+            7..=9 => (PUBLISH, format!("site/{pier}/camera/{}", scene.random.below(4))),
+            10 => (PUBLISH, format!("site/{pier}/mount/slew")),
+            _ => (PUBLISH, format!("site/{pier}/mount/{}", scene.random.pick(&["ra", "dec"]))),
+        };
+        let payload =
+            if kind == PUBLISH { format!("{{\"angle\":{}}}", scene.random.below(1_296_000)) } else { "".into() };
+        scene.message(kind, now, topic.as_bytes(), payload.len() as u16, payload.as_bytes());
+    }
+    scene.fill(LONGEST);
 }
 
 fn small(scene: &mut Scene) {

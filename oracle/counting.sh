@@ -1,0 +1,52 @@
+# counting.sh: what the parts of bin/measure share that count instructions: hosts over the Rust original and an archive, and tables of what callgrind counts in
+# them, both sides on the same input in the same run. bin/measure reads it, in the repository's folder, with $room a folder for the run.
+
+# Has the C library copy and fill by vectors always: it takes `rep` for more than some KiB, and callgrind counts each byte of that.
+export BY_VECTORS=glibc.cpu.x86_rep_movsb_threshold=1000000000:glibc.cpu.x86_rep_stosb_threshold=1000000000
+
+# host NAME: builds a program of oracle/src over the original and the archive of hub. The archive is proved, and the original built, once a run.
+host() {
+    if [ -z "${HUB_ARCHIVE-}" ]; then
+        rt staticlib hub >&2
+        HUB_ARCHIVE=$root/target/staticlib
+    fi
+    [ -e "$room/built" ] || oracle/build
+    touch "$room/built"
+    oracle/host "$1" "$HUB_ARCHIVE"
+}
+
+# The traces that we measure with, in $room/traces.
+written() {
+    [ ! -d "$room/traces" ] || return 0
+    host benchtraces
+    mkdir "$room/traces"
+    target/oracle/benchtraces write "$room/traces"
+}
+
+# counts NAMES HOST WORDS...: counts inside hub_NAME and rust_NAME while the host runs. $room/counts then has a line for each row: its name, its parts, both
+# counts. Each return of row_done ends one count, in a file of its own: the odd ones are ours.
+counts() {
+    counted=
+    for name in $1; do
+        counted="$counted --toggle-collect=hub_$name --toggle-collect=rust_$name"
+    done
+    shift
+    valgrind --quiet --tool=callgrind --collect-atstart=no $counted --dump-after=row_done \
+        --callgrind-out-file="$room/count" "$@" >"$room/rows"
+    turn=0
+    while IFS='|' read -r name parts; do
+        ours=$(sed -n 's/^totals: //p' "$room/count.$((turn + 1))")
+        theirs=$(sed -n 's/^totals: //p' "$room/count.$((turn + 2))")
+        turn=$((turn + 2))
+        echo "$name|$parts|$ours|$theirs"
+    done <"$room/rows" >"$room/counts"
+    rm -f "$room"/count.*
+}
+
+# table NAMES HOST WORDS...: the counts, divided by the parts.
+table() {
+    counts "$@"
+    echo '| What | Rattle | Rust | Ratio |'
+    echo '|---|---|---|---|'
+    awk -F'|' '{ a = int($3 / $2); b = int($4 / $2); printf "| %s | %d | %d | %.2f |\n", $1, a, b, a / b }' "$room/counts"
+}
