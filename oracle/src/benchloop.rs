@@ -20,6 +20,7 @@ const LENGTHS: [u32; 2] = [1_000, 3_000];
 
 unsafe extern "C" {
     safe fn hub_loop(rules: u32, topics: u32, messages: u32) -> u64;
+    safe fn hub_loop_rules(rules: u32) -> u16;
 }
 
 #[unsafe(no_mangle)]
@@ -66,6 +67,7 @@ fn main() {
 
 fn count() {
     for (rules, topics) in CELLS {
+        assert!(u32::from(hub_loop_rules(rules)) == rules, "not all of {rules} rules were taken");
         let name = format!("{rules} rules, {topics} topics");
         for messages in LENGTHS {
             let hub = || hub_loop(black_box(rules), black_box(topics), black_box(messages));
@@ -83,6 +85,9 @@ fn print_stack() {
             let theirs = stack::depth(|| _ = black_box(rust_loop(rules, topics, black_box(messages))));
             deepest = [deepest[0].max(ours), deepest[1].max(theirs)];
         }
-        println!("deepest stack, state included, {messages} messages: Rattle {} bytes, Rust {} bytes", deepest[0], deepest[1]);
+        println!(
+            "deepest stack, state included, {messages} messages: Rattle {} bytes, Rust {} bytes",
+            deepest[0], deepest[1]
+        );
     }
 }

@@ -130,6 +130,15 @@ fn count_if(n: u64, allowed: bool) -> u64
     if allowed { count_on(n) } else { n }
 }
 
+// How many rules the loop's monitor has.
+#[no_mangle]
+pub extern "C" fn hub_loop_rules(rules: u32) -> u16
+    ensures { λ r. ⌜ r ≡ readied (min (max rules 1) 32 - 1) .«rule_count» ⌝ }
+{
+    let m = readied(within(rules, 32) - 1);
+    m.rule_count
+}
+
 // How many of so many messages are allowed, on 1 to 64 topics in turn and under 1 to 32 rules; numbers outside of that are brought into it.
 #[no_mangle]
 pub extern "C" fn hub_loop(rules: u32, topics: u32, messages: u32) -> u64
