@@ -1,5 +1,5 @@
-// One loop owns the monitor and inspects message after message: each is planned and its records are stored in place, as in `trace::run`. Rules, topics and times are
-// made from numbers, so that the Rust can be given the same.
+// One loop owns the monitor and inspects message after message: each is planned and its records are stored in place, as in `trace::run`. Rules and times are
+// made from numbers, so that the Rust can be given the same; topics are lent, since what the compiler knows of them it computes beforehand.
 use monitor::alerts::count_on;
 use monitor::calls::new_deny_default;
 use monitor::message::MqttMessage;
@@ -12,9 +12,9 @@ use tables::rules::QosPolicy;
 use tables::rules::TopicAction;
 ghost use mathlib.Core.Bool.{cond};
 ghost use mathlib.Core.Path.{_≡_};
-ghost use Prim.Native.Nat.{_-_, _≤_, min, max};
+ghost use Prim.Native.Nat.{_+_, _-_, _≤_, min, max};
 ghost use Rattle.monitor.specs.Alerts.{counted};
-ghost use Rattle.loops.specs.Inspections.{patternOf, topicOf, messageAt, readied, allowedAfter};
+ghost use Rattle.loops.specs.Inspections.{patternOf, nextFrom, messageAt, readied, loopAllowed};
 
 // A number brought into 1 to `most`.
 fn within(n: u32, most: u32) -> u32
@@ -53,40 +53,26 @@ fn pattern_of(k: u32) -> [u8; 15]
     ]
 }
 
-// One of 64 topics.
-fn topic_of(k: u32) -> [u8; 17]
-    ensures { λ r. ⌜ r ≡ topicOf k ⌝ }
+// Where the next topic begins, in a text of topics of one width: after the last comes the first.
+fn next_from(length: usize, width: usize, from: usize) -> usize
+    requires { ⌜ from + width ≤ length ⌝ }
+    ensures { λ r. ⌜ r ≡ nextFrom length width from ⌝ }
 {
-    [
-        b's',
-        b'i',
-        b't',
-        b'e',
-        b'/',
-        b'n',
-        b'o',
-        b'r',
-        b't',
-        b'h',
-        b'/',
-        b'l',
-        b'a',
-        b'm',
-        b'p',
-        b'/',
-        (48 + k % 64) as u8,
-    ]
+    if length - from - width < width {
+        return 0;
+    }
+    from + width
 }
 
 // The k-th message, 10,000 microseconds after the one before it.
-fn message_at(k: u32) -> MqttMessage
-    ensures { λ r. ⌜ r ≡ messageAt k ⌝ }
+fn message_at(topic_len: u8, size: u16, k: u32) -> MqttMessage
+    ensures { λ r. ⌜ r ≡ messageAt «topic_len» size k ⌝ }
 {
     MqttMessage {
         packet_type: MqttPacketType::Publish,
-        topic_len: 17,
+        topic_len,
         qos: MqttQoS::AtLeastOnce,
-        payload_len: 20,
+        payload_len: size,
         payload_inspectable_len: 2,
         timestamp_us: k as u64 * 10000,
         timestamp_ok: true,
@@ -139,18 +125,25 @@ pub extern "C" fn hub_loop_rules(rules: u32) -> u16
     m.rule_count
 }
 
-// How many of so many messages are allowed, on 1 to 64 topics in turn and under 1 to 32 rules; numbers outside of that are brought into it.
+// How many of so many messages of one size are allowed, under 1 to 32 rules and on lent topics of one width in turn; 0 where a topic has more than 128 bytes or none is lent whole.
 #[no_mangle]
-pub extern "C" fn hub_loop(rules: u32, topics: u32, messages: u32) -> u64
-    ensures { λ r. ⌜ r ≡ allowedAfter (min (max rules 1) 32 - 1) (min (max topics 1) 64) messages ⌝ }
+pub extern "C" fn hub_loop(rules: u32, topics: &[u8], width: u8, size: u16, messages: u32) -> u64
+    ensures { λ r. ⌜ r ≡ loopAllowed (min (max rules 1) 32 - 1) (now (topics .entry)) width size messages ⌝ }
 {
-    let live = within(topics, 64);
+    let wide = width as usize;
+    if 128 < wide {
+        return 0;
+    }
+    if topics.len() < wide {
+        return 0;
+    }
     let mut m = readied(within(rules, 32) - 1);
     let mut allowed: u64 = 0;
+    let mut from: usize = 0;
     let mut k: u32 = 0;
     while k < messages {
-        let topic = topic_of(k % live);
-        let plan = plan_for(m, message_at(k), &topic[..], b"on");
+        let to = from + wide;
+        let plan = plan_for(m, message_at(width, size, k), &topics[from..to], b"on");
         let inspected = count_on(m.total_inspected);
         let seen = plan.seen;
         let seen_at = seen.at;
@@ -175,6 +168,7 @@ pub extern "C" fn hub_loop(rules: u32, topics: u32, messages: u32) -> u64
         m.total_inspected = inspected;
         m.total_alerts = raised.total;
         allowed = count_if(allowed, plan.allowed);
+        from = next_from(topics.len(), wide, from);
         k += 1;
     }
     allowed
