@@ -30,7 +30,7 @@ fn within(n: u32, most: u32) -> u32
     n
 }
 
-// A pattern that takes none of the topics.
+// A pattern that takes no topic below `site/+/lamp`.
 fn pattern_of(k: u32) -> [u8; 15]
     ensures { λ r. ⌜ r ≡ patternOf k ⌝ }
 {
@@ -79,7 +79,7 @@ fn message_at(topic_len: u8, size: u16, k: u32) -> MqttMessage
     }
 }
 
-// A monitor that blocks by default, with so many rules that take none of the topics, and one last that takes them all.
+// A monitor that blocks by default, with so many rules that take no topic below `site/+/lamp`, and one last that takes them all.
 fn readied(others: u32) -> MqttMonitor
     ensures { λ r. ⌜ r ≡ readied others ⌝ }
 {
@@ -116,7 +116,7 @@ fn count_if(n: u64, allowed: bool) -> u64
     if allowed { count_on(n) } else { n }
 }
 
-// How many rules the loop's monitor has.
+// How many rules the loop's monitor has, by which a host sees that none was refused. It also gives `readied` a second caller: so it stays a call, and its stack is not the loop's.
 #[no_mangle]
 pub extern "C" fn hub_loop_rules(rules: u32) -> u16
     ensures { λ r. ⌜ r ≡ readied (min (max rules 1) 32 - 1) .«rule_count» ⌝ }
