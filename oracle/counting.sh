@@ -4,14 +4,19 @@
 # Has the C library copy and fill by vectors always: it takes `rep` for more than some KiB, and callgrind counts each byte of that.
 export BY_VECTORS=glibc.cpu.x86_rep_movsb_threshold=1000000000:glibc.cpu.x86_rep_stosb_threshold=1000000000
 
-# host NAME: builds a program of oracle/src over the original and the archive of hub. The archive is proved, and the original built, once a run.
+# The original, built once a run.
+original() {
+    [ -e "$room/built" ] || oracle/build
+    touch "$room/built"
+}
+
+# host NAME: builds a program of oracle/src over the original and the archive of hub, which is proved once a run.
 host() {
     if [ -z "${HUB_ARCHIVE-}" ]; then
         rt staticlib hub >&2
         HUB_ARCHIVE=$root/target/staticlib
     fi
-    [ -e "$room/built" ] || oracle/build
-    touch "$room/built"
+    original
     oracle/host "$1" "$HUB_ARCHIVE"
 }
 
@@ -49,4 +54,14 @@ table() {
     echo '| What | Rattle | Rust | Ratio |'
     echo '|---|---|---|---|'
     awk -F'|' '{ a = int($3 / $2); b = int($4 / $2); printf "| %s | %d | %d | %.2f |\n", $1, a, b, a / b }' "$room/counts"
+}
+
+# differences NAMES HOST WORDS...: each two rows are one: what the second counted more, divided by the parts that it has more.
+differences() {
+    counts "$@"
+    echo '| What | Rattle | Rust | Ratio |'
+    echo '|---|---|---|---|'
+    awk -F'|' '
+        NR % 2 { parts = $2; ours = $3; theirs = $4; next }
+        { n = $2 - parts; a = ($3 - ours) / n; b = ($4 - theirs) / n; printf "| %s | %d | %d | %.2f |\n", $1, a, b, a / b }' "$room/counts"
 }

@@ -1,6 +1,7 @@
 pub mod AnswersCut
 pub mod AnswersHub
 pub mod AnswersLines
+pub mod AnswersLoops
 pub mod AnswersMonitor
 pub mod AnswersTables
 pub mod AnswersTopics
