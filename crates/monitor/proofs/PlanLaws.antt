@@ -1,6 +1,6 @@
 -- The plan from what its calls hand back: with a payload hash that is made only where it is wanted (`planned`), and whole, with an identity that is made only if
 -- one of two tables is asked (`composed`). Assumes nothing.
-use mathlib.Core.Bool.{Bool, true, false, cond, not, _||_, or-true}
+use mathlib.Core.Bool.{Bool, cond, not, _||_, or-true}
 use mathlib.Core.List.{List}
 use mathlib.Core.Path.{_≡_, ap, _∙_}
 use Prim.Native.Nat.{ℕ}

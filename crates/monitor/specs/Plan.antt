@@ -1,7 +1,7 @@
 -- What each table decides on one message, and the message's alerts (document 01, "Order inside one inspection"): each decision is a function of the table's own
 -- old value, of what the gate says and of the topic's identity. A table that is not asked gets the place past its end, where nothing is stored.
 -- Assumes nothing.
-use mathlib.Core.Bool.{Bool, true, false, cond, not, _||_}
+use mathlib.Core.Bool.{Bool, false, cond, not, _||_}
 use mathlib.Core.List.{List}
 use Prim.Native.Nat.{ℕ}
 use lib.Dec.{eqb, ltb}
