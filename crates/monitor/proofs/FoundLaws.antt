@@ -29,9 +29,9 @@ abbrev pub Settled : ℕ → Type 0
 Settled k = eqb k 0 ≡ not (denies k)
 
 -- a gate that denies by such a kind, and that is not both of a broad Subscribe and feeding
-pub record Fair (g : Gate) : Type 0 where
-  pub settled : Settled (g .denial)
-  pub apart : g .broad ≡ true → g .feeds ≡ false
+record Fair (g : Gate) : Type 0 where
+  settled : Settled (g .denial)
+  apart : g .broad ≡ true → g .feeds ≡ false
 
 -- what holds of both holds of either
 either : {A : Type 0} (P : A → Type 0) (c : Bool) {x y : A} → P x → P y → P (cond c x y)
@@ -62,7 +62,7 @@ after-fair msg topic r =
     (either Fair (isBlock (r .action)) (denied-fair 3 (subscribe && isBroad topic) r refl) (passes-fair msg topic r))
 
 -- every gate
-pub fair : (matcher : List ℕ → List ℕ → Bool) (rules : List TopicRule) (n : ℕ) (default : TopicAction) (msg : MqttMessage) (topic : List ℕ)
+fair : (matcher : List ℕ → List ℕ → Bool) (rules : List TopicRule) (n : ℕ) (default : TopicAction) (msg : MqttMessage) (topic : List ℕ)
     → Fair (gateOf matcher rules n default msg topic)
 unfolding gateOf denies
 fair matcher rules n default msg topic =
@@ -79,7 +79,7 @@ limiter-settled Limited = refl
 limiter-settled EvictedAndDenied = refl
 
 -- the one that denies the message
-pub denial-settled : (seen : ConnectDecision) (g : Gate) (spent : RateDecision) → Fair g → Settled (denialOf seen g spent)
+denial-settled : (seen : ConnectDecision) (g : Gate) (spent : RateDecision) → Fair g → Settled (denialOf seen g spent)
 unfolding denialOf denies
 denial-settled seen g spent f =
     either Settled (seen .storm) refl (either Settled (ltb 0 (g .denial)) (f .settled) (limiter-settled (spent .result)))

@@ -73,18 +73,18 @@ window-fine T h t threshold window e =
 -- what each table is asked to store
 module _ (m : MqttMonitor) (msg : MqttMessage) (topic : List ℕ) where
   spent-fine : (rate : ℕ) → every bucketFine (m .«rate_buckets») ≡ true
-      → every bucketFine (stored (m .«rate_buckets») (spentOf (m .«rate_buckets») rate topic (msg .«timestamp_us»))) ≡ true
+      → every bucketFine (stored (m .«rate_buckets») (spentOf (m .«rate_buckets») rate (idOf topic) (msg .«timestamp_us»))) ≡ true
   unfolding spentOf
   spent-fine rate e =
       by (ltb 0 rate) (λ h. rw h (buckets-fine topic rate (msg .«timestamp_us») (m .«rate_buckets») e))
       (λ h. rw h (every-set bucketFine (m .«rate_buckets») 32 emptyBucket e refl))
 
-  seen-fine : every windowFine (m .«client_hashes») ≡ true → windowFine (seenOf m msg topic .entry) ≡ true
+  seen-fine : every windowFine (m .«client_hashes») ≡ true → windowFine (seenOf (m .«client_hashes») (m .«connect_storm_threshold») (m .«connect_storm_window_us») msg topic .entry) ≡ true
   unfolding seenOf
   seen-fine e = by (eqb (typeNumber (msg .«packet_type»)) 1) (λ h. rw h (window-fine (m .«client_hashes») _ _ _ _ e)) (λ h. rw h)
 
   fed-fine : (feeds : Bool) → every trackerFine (m .«ewma_trackers») ≡ true
-      → trackerFine (fedOf (m .«ewma_trackers») feeds topic (msg .«payload_len») (msg .«timestamp_us») .tracker) ≡ true
+      → trackerFine (fedOf (m .«ewma_trackers») feeds (idOf topic) (msg .«payload_len») (msg .«timestamp_us») .tracker) ≡ true
   unfolding fedOf
   fed-fine true e = tracker-fine topic (m .«ewma_trackers») (msg .«payload_len») (msg .«timestamp_us») e
   fed-fine false e = refl
@@ -96,8 +96,8 @@ unfolding wellFormed applied planOf planFrom
 applied-formed matcher m msg topic payload f =
     let h = formed-parts m f in
     let g = gateIn matcher m msg topic in
-    let w = seenOf m msg topic in
-    let k = fedOf (m .«ewma_trackers») (g .feeds) topic (msg .«payload_len») (msg .«timestamp_us») in
+    let w = seenOf (m .«client_hashes») (m .«connect_storm_threshold») (m .«connect_storm_window_us») msg topic in
+    let k = fedOf (m .«ewma_trackers») (g .feeds) (idOf topic) (msg .«payload_len») (msg .«timestamp_us») in
     parts-formed (applied m (planOf matcher m msg topic payload))
     (record {
       count = h .count;

@@ -4,15 +4,13 @@ use mathlib.Core.List.{List, [], _∷_, _++_, foldl}
 use mathlib.Core.Path.{_≡_, refl, sym, _∙_}
 use Prim.Native.Nat.{ℕ}
 use native.Mathlib.Omega.{arith}
-use borrow.Author.Tests.{eqb-true, ltb-false}
+use borrow.Author.Tests.{ltb-false}
 use lib.Dec.{eqb, ltb}
 use lib.ListN.{replicate}
 use Rattle.topics.proofs.ByteLaws.{by}
-use Rattle.topics.proofs.BoolLaws.{fails}
 use Rattle.monitor.specs.Alerts.{when, kindsOf, denies, some, hashOf, raise, raiseAll}
 use Rattle.monitor.specs.declared.alerts.Findings.{Findings}
 use Rattle.monitor.specs.declared.alerts.Raised.{Raised}
-use Rattle.monitor.proofs.FoundLaws.{Settled}
 
 -- laws of tests
 and-false : (b : Bool) → b && false ≡ false
@@ -67,16 +65,10 @@ kinds-deny f =
 abbrev carries : ℕ → Bool
 carries k = eqb k 3 || eqb k 7
 
--- 7 does not deny
-not-7 : (k : ℕ) → Settled k → eqb k 7 ≡ false
-unfolding denies
-not-7 k s = fails (eqb k 7) (λ e. true≢false (sym (rw (eqb-true k 7 e) at s)))
-
 -- no kind carries the hash
-none-carries : (f : Findings) → Settled (f .denial) → eqb (f .denial) 3 || f .anomaly ≡ false → some carries (kindsOf f) ≡ false
-none-carries f s e =
-    let h = neither (eqb (f .denial) 3) (f .anomaly) e in
-    some-kinds carries f ∙ rw (h .0, not-7 (f .denial) s, h .1) (simp (and-false, or-false))
+none-carries : (f : Findings) → carries (f .denial) || f .anomaly ≡ false → some carries (kindsOf f) ≡ false
+none-carries f e =
+    let h = neither (carries (f .denial)) (f .anomaly) e in some-kinds carries f ∙ rw (h .0, h .1) (simp (and-false, or-false))
 
 module _ (hash other : List ℕ) (t : ℕ) where
   -- one alert, and many, of kinds that do not
@@ -91,8 +83,8 @@ module _ (hash other : List ℕ) (t : ℕ) where
       let h = neither (carries k) (some carries ks) e in rw (raise-hash a k (h .0)) (fold-hash ks (raise other t a k) (h .1))
 
 -- the payload hash is made where it is wanted
-pub raised-hash : (f : Findings) → Settled (f .denial) → (hash : List ℕ) (t id total : ℕ)
-    → raiseAll (cond (eqb (f .denial) 3 || f .anomaly) hash (replicate 32 0)) t id total (kindsOf f) ≡ raiseAll hash t id total (kindsOf f)
+pub raised-hash : (f : Findings) (hash : List ℕ) (t id total : ℕ)
+    → raiseAll (cond (carries (f .denial) || f .anomaly) hash (replicate 32 0)) t id total (kindsOf f) ≡ raiseAll hash t id total (kindsOf f)
 unfolding raiseAll
-raised-hash f s hash t id total =
-    by (eqb (f .denial) 3 || f .anomaly) (λ e. rw e) (λ e. rw e (fold-hash (replicate 32 0) hash t (kindsOf f) _ (none-carries f s e)))
+raised-hash f hash t id total =
+    by (carries (f .denial) || f .anomaly) (λ e. rw e) (λ e. rw e (fold-hash (replicate 32 0) hash t (kindsOf f) _ (none-carries f e)))

@@ -12,6 +12,7 @@ use Rattle.topics.specs.Hashes.{clientHashes}
 use Rattle.topics.specs.Payload.{payloadHash}
 use Rattle.topics.proofs.ByteLaws.{by}
 use Rattle.topics.proofs.FoldLaws.{fold-keeps}
+use Rattle.tables.specs.Identity.{idOf}
 use Rattle.monitor.specs.Alerts.{idAfter, noneRaised, raise, raiseAll, kindsOf}
 use Rattle.monitor.specs.Inspect.{storedAt, applied, inspectRefusal, inspectWith}
 use Rattle.monitor.specs.Message.{typeNumber, usedTopic, usedPayload}
@@ -40,7 +41,7 @@ all-ids hash t id total kinds n = fold-keeps (raise hash t) (λ a. a .«next_id�
 
 module _ {m : MqttMonitor} (s : Sound m) (msg : MqttMessage) (topic : List ℕ) (short : length topic < 65536) where
   -- the tables with what they are asked to store
-  seen-sound : SoundWindows (storedAt 16 (m .«client_hashes») (seenOf m msg topic .at) (seenOf m msg topic .entry))
+  seen-sound : SoundWindows (storedAt 16 (m .«client_hashes») (seenOf (m .«client_hashes») (m .«connect_storm_threshold») (m .«connect_storm_window_us») msg topic .at) (seenOf (m .«client_hashes») (m .«connect_storm_threshold») (m .«connect_storm_window_us») msg topic .entry))
   unfolding seenOf
   seen-sound =
       by (eqb (typeNumber (msg .«packet_type»)) 1)
@@ -48,7 +49,7 @@ module _ {m : MqttMonitor} (s : Sound m) (msg : MqttMessage) (topic : List ℕ) 
       (λ e. rw e (s .windows-sound))
 
   module _ (rate t : ℕ) where
-    spent-sound : SoundBuckets (storedAt 32 (m .«rate_buckets») (spentOf (m .«rate_buckets») rate topic t .at) (spentOf (m .«rate_buckets») rate topic t .bucket))
+    spent-sound : SoundBuckets (storedAt 32 (m .«rate_buckets») (spentOf (m .«rate_buckets») rate (idOf topic) t .at) (spentOf (m .«rate_buckets») rate (idOf topic) t .bucket))
     unfolding spentOf
     spent-sound =
         by (ltb 0 rate)
@@ -57,7 +58,7 @@ module _ {m : MqttMonitor} (s : Sound m) (msg : MqttMessage) (topic : List ℕ) 
 
   module _ (size t : ℕ) where
     fed-sound : (feeds : Bool)
-        → SoundTrackers (storedAt 16 (m .«ewma_trackers») (fedOf (m .«ewma_trackers») feeds topic size t .at) (fedOf (m .«ewma_trackers») feeds topic size t .tracker))
+        → SoundTrackers (storedAt 16 (m .«ewma_trackers») (fedOf (m .«ewma_trackers») feeds (idOf topic) size t .at) (fedOf (m .«ewma_trackers») feeds (idOf topic) size t .tracker))
     unfolding fedOf
     fed-sound true = stored-or-not SoundTrackers 16 (m .«ewma_trackers») _ _ (s .trackers-sound) (trackers-after topic short size t (s .trackers-sound))
     fed-sound false = s .trackers-sound

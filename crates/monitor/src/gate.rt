@@ -5,7 +5,8 @@ use tables::rules::QosPolicy;
 use tables::rules::TopicAction;
 use tables::rules::TopicRule;
 use tables::rules::check_qos_policy;
-use tables::rules::first_rule;
+use tables::rules::places;
+use tables::rules::takes;
 use topics::names::contains_invalid_publish_char;
 use topics::names::is_broad_wildcard_subscribe;
 use topics::names::starts_with_dollar;
@@ -69,19 +70,20 @@ fn ruled_by_default(action: TopicAction, at: usize) -> Ruling
     }
 }
 
-// The first matching rule, else the default.
+// The first matching rule, else the default. The search hands over where it finds: a second read of the table would copy it.
 fn rule_for(rules: [TopicRule; 32], count: u16, default_action: TopicAction, topic: &[u8]) -> Ruling
     ensures { λ r. ⌜ r ≡ rulingOf portMatches rules count «default_action» (now (topic .entry)) ⌝ }
 {
-    let n = count as usize;
-    let at = first_rule(rules, n, topic);
-    if n <= at {
-        return ruled_by_default(default_action, at);
+    let n = places(count as usize);
+    let mut i = 0;
+    while i < n {
+        let rule = rules[i];
+        if takes(rule, topic) {
+            return ruled_by(rule, i);
+        }
+        i += 1;
     }
-    if 32 <= at {
-        return ruled_by_default(default_action, at);
-    }
-    ruled_by(rules[at], at)
+    ruled_by_default(default_action, i)
 }
 
 fn is_block(action: TopicAction) -> bool

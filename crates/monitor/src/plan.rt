@@ -1,5 +1,6 @@
 // The plan: what each table that is asked decides from its own old value, and the alerts of the message (document 01, "Order inside one inspection"). A table that is
-// not asked has the place past its end. The identity and the payload hash are made only where they are wanted.
+// not asked has the place past its end. The identity and the payload hash are made only where they are wanted. Each decision is a call on its own table, so that a loop
+// that owns the state asks them one by one and hands the whole state to none.
 use crate::alerts::Findings;
 use crate::alerts::Raised;
 use crate::alerts::raise_all;
@@ -9,6 +10,7 @@ use crate::gate::gate_for;
 use crate::message::MqttMessage;
 use crate::message::type_number;
 use crate::state::MqttMonitor;
+use tables::buckets::RateBucket;
 use tables::buckets::RateCheckResult;
 use tables::buckets::RateDecision;
 use tables::buckets::empty_bucket;
@@ -16,9 +18,11 @@ use tables::buckets::rate_limit_check;
 use tables::identity::Id;
 use tables::identity::empty_id;
 use tables::identity::id_of;
+use tables::trackers::EwmaTracker;
 use tables::trackers::TrackerDecision;
 use tables::trackers::empty_tracker;
 use tables::trackers::ewma_update;
+use tables::windows::ClientStormEntry;
 use tables::windows::ConnectDecision;
 use tables::windows::empty_window;
 use tables::windows::record_connect;
@@ -31,11 +35,10 @@ ghost use lib.ListN.{replicate};
 ghost use Rattle.topics.specs.Matching.{portMatches};
 ghost use Rattle.topics.specs.Payload.{payloadHash};
 ghost use Rattle.tables.specs.Buckets.{emptyBucket};
-ghost use Rattle.tables.specs.Identity.{idOf, emptyId};
 ghost use Rattle.tables.specs.Trackers.{emptyTracker};
 ghost use Rattle.tables.specs.Windows.{emptyWindow};
 ghost use Rattle.tables.specs.declared.buckets.RateCheckResult.the-variants.{Allowed};
-ghost use Rattle.monitor.specs.Plan.{limiterKind, planOf};
+ghost use Rattle.monitor.specs.Plan.{seenOf, idFor, spentOf, fedOf, limiterKind, planFrom, planOf};
 
 // What is to be stored where, and the message's result.
 pub struct Plan {
@@ -78,13 +81,6 @@ fn not_fed() -> TrackerDecision
         tracker: empty_tracker(),
         alert: false,
     }
-}
-
-// The topic's identity, where the limiter or the tracker is asked.
-fn id_if(wanted: bool, topic: &[u8]) -> Id
-    ensures { λ r. ⌜ r ≡ cond wanted (idOf (now (topic .entry))) emptyId ⌝ }
-{
-    if wanted { id_of(topic) } else { empty_id() }
 }
 
 // The payload hash, where an alert carries it.
@@ -134,45 +130,83 @@ fn wants_id(rate: u16, feeds: bool) -> bool
 
 // Whether an alert of kind 3 or 7 is raised.
 fn wants_hash(denial: u32, anomaly: bool) -> bool
-    ensures { λ r. ⌜ r ≡ (eqb denial 3 || anomaly) ⌝ }
+    ensures { λ r. ⌜ r ≡ (eqb denial 3 || eqb denial 7 || anomaly) ⌝ }
 {
     if denial == 3 {
+        return true;
+    }
+    if denial == 7 {
         return true;
     }
     anomaly
 }
 
-// The plan of a message with its used topic and payload. A loop that owns the state asks for it and does the stores itself (`inspection::inspect` does them once).
-pub fn plan_for(m: MqttMonitor, msg: MqttMessage, topic: &[u8], payload: &[u8]) -> Plan
-    ensures { λ r. ⌜ r ≡ planOf portMatches m msg (now (topic .entry)) (now (payload .entry)) ⌝ }
+// What the CONNECT windows decide.
+pub fn seen_for(
+    clients: [ClientStormEntry; 16],
+    threshold: u8,
+    window_us: u64,
+    msg: MqttMessage,
+    topic: &[u8],
+) -> ConnectDecision
+    ensures { λ r. ⌜ r ≡ seenOf clients threshold «window_us» msg (now (topic .entry)) ⌝ }
 {
-    let rules = m.rules;
-    let default_action = m.default_action;
     let packet_type = msg.packet_type;
-    let time = msg.timestamp_us;
-    let gate = gate_for(rules, m.rule_count, default_action, msg, topic);
-    let mut seen = not_connected();
-    if type_number(packet_type) == 1 {
-        let clients = m.client_hashes;
-        seen = record_connect(
-            clients,
-            client_hashes(topic),
-            time,
-            m.connect_storm_threshold,
-            m.connect_storm_window_us,
-        );
+    if type_number(packet_type) != 1 {
+        return not_connected();
     }
-    let id = id_if(wants_id(gate.rate, gate.feeds), topic);
-    let mut spent = not_limited();
-    if 0 < gate.rate {
-        let buckets = m.rate_buckets;
-        spent = rate_limit_check(buckets, id, gate.rate, time);
+    record_connect(
+        clients,
+        client_hashes(topic),
+        msg.timestamp_us,
+        threshold,
+        window_us,
+    )
+}
+
+// The topic's identity, where the limiter or the tracker is asked.
+pub fn id_for(gate: Gate, topic: &[u8]) -> Id
+    ensures { λ r. ⌜ r ≡ idFor gate (now (topic .entry)) ⌝ }
+{
+    if wants_id(gate.rate, gate.feeds) {
+        return id_of(topic);
     }
-    let mut fed = not_fed();
-    if gate.feeds {
-        let trackers = m.ewma_trackers;
-        fed = ewma_update(trackers, id, msg.payload_len, time);
+    empty_id()
+}
+
+// What the limiter decides.
+pub fn spent_for(buckets: [RateBucket; 32], gate: Gate, id: Id, time: u64) -> RateDecision
+    ensures { λ r. ⌜ r ≡ spentOf buckets (gate .rate) id time ⌝ }
+{
+    if gate.rate == 0 {
+        return not_limited();
     }
+    rate_limit_check(buckets, id, gate.rate, time)
+}
+
+// What the payload trackers decide.
+pub fn fed_for(trackers: [EwmaTracker; 16], gate: Gate, id: Id, msg: MqttMessage) -> TrackerDecision
+    ensures { λ r. ⌜ r ≡ fedOf trackers (gate .feeds) id (msg .«payload_len») (msg .«timestamp_us») ⌝ }
+{
+    if !gate.feeds {
+        return not_fed();
+    }
+    ewma_update(trackers, id, msg.payload_len, msg.timestamp_us)
+}
+
+// The plan from what was decided, with the message's alerts.
+pub fn plan_from(
+    gate: Gate,
+    seen: ConnectDecision,
+    spent: RateDecision,
+    fed: TrackerDecision,
+    msg: MqttMessage,
+    payload: &[u8],
+    next_id: u64,
+    total: u64,
+) -> Plan
+    ensures { λ r. ⌜ r ≡ planFrom «next_id» total msg (now (payload .entry)) gate seen spent fed ⌝ }
+{
     let result = spent.result;
     let denial = denial_for(seen.storm, gate.denial, result);
     let found = Findings {
@@ -183,7 +217,7 @@ pub fn plan_for(m: MqttMonitor, msg: MqttMessage, topic: &[u8], payload: &[u8]) 
         anomaly: fed.alert,
     };
     let hash = hash_if(wants_hash(denial, fed.alert), payload);
-    let raised = raise_all(found, hash, time, m.next_alert_id, m.total_alerts);
+    let raised = raise_all(found, hash, msg.timestamp_us, next_id, total);
     let stage = gate.stage;
     Plan {
         stage,
@@ -193,4 +227,36 @@ pub fn plan_for(m: MqttMonitor, msg: MqttMessage, topic: &[u8], payload: &[u8]) 
         allowed: denial == 0,
         raised,
     }
+}
+
+// The plan of a message with its used topic and payload, under a state; `inspection::inspect` asks for it and does the stores.
+pub fn plan_for(m: MqttMonitor, msg: MqttMessage, topic: &[u8], payload: &[u8]) -> Plan
+    ensures { λ r. ⌜ r ≡ planOf portMatches m msg (now (topic .entry)) (now (payload .entry)) ⌝ }
+{
+    let rules = m.rules;
+    let default_action = m.default_action;
+    let gate = gate_for(rules, m.rule_count, default_action, msg, topic);
+    let clients = m.client_hashes;
+    let seen = seen_for(
+        clients,
+        m.connect_storm_threshold,
+        m.connect_storm_window_us,
+        msg,
+        topic,
+    );
+    let id = id_for(gate, topic);
+    let buckets = m.rate_buckets;
+    let spent = spent_for(buckets, gate, id, msg.timestamp_us);
+    let trackers = m.ewma_trackers;
+    let fed = fed_for(trackers, gate, id, msg);
+    plan_from(
+        gate,
+        seen,
+        spent,
+        fed,
+        msg,
+        payload,
+        m.next_alert_id,
+        m.total_alerts,
+    )
 }

@@ -1,5 +1,5 @@
--- What is true of one rule and of the places that the searches of the rule table find. The first half is what the code of `rule_fine` and of the two tests
--- needs, the second what upper crates need. Assumes nothing.
+-- What is true of one rule and of the places that the searches of the rule table find. The first half is what code needs: `rule_fine`, the two tests, and the
+-- searches of `equal_rule` and of the monitor's `rule_for`. The second is what upper crates reason with. Assumes nothing.
 use mathlib.Core.Bool.{Bool, true, false, not, _&&_}
 use mathlib.Core.List.{List}
 use mathlib.Core.Path.{_≡_, sym}

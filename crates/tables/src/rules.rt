@@ -7,7 +7,7 @@ ghost use mathlib.Core.Path.{_≡_};
 ghost use Prim.Native.Nat.{min};
 ghost use Rattle.topics.specs.Levels.{same};
 ghost use Rattle.topics.specs.Matching.{portMatches};
-ghost use Rattle.tables.specs.Rules.{level, qosOk, patternOf, ruleFine, equalRule, firstRule, shadowCount, emptyRule};
+ghost use Rattle.tables.specs.Rules.{level, qosOk, patternOf, ruleFine, equalRule, shadowCount, emptyRule};
 
 pub enum MqttQoS {
     AtMostOnce,
@@ -82,7 +82,7 @@ fn used(pattern_len: u8) -> usize
 }
 
 // How many places of the table count, likewise.
-fn places(count: usize) -> usize
+pub fn places(count: usize) -> usize
     ensures { λ r. ⌜ r ≡ min count 32 ⌝ }
 {
     if count < 32 {
@@ -107,7 +107,7 @@ pub fn rule_fine(rule: TopicRule) -> bool
 }
 
 // A live rule takes a topic.
-fn takes(rule: TopicRule, topic: &[u8]) -> bool
+pub fn takes(rule: TopicRule, topic: &[u8]) -> bool
     ensures { λ r. ⌜ r ≡ (rule .active && portMatches (now (topic .entry)) (patternOf rule)) ⌝ }
 {
     if !rule.active {
@@ -128,21 +128,6 @@ fn has_pattern(rule: TopicRule, pattern: &[u8]) -> bool
     let n = used(rule.pattern_len);
     let held = rule.pattern;
     same_bytes(&held[..n], pattern)
-}
-
-// The first rule that takes a topic: its place, or where the rules end.
-pub fn first_rule(rules: [TopicRule; 32], count: usize, topic: &[u8]) -> usize
-    ensures { λ r. ⌜ r ≡ firstRule portMatches (now (topic .entry)) rules count ⌝ }
-{
-    let n = places(count);
-    let mut i = 0;
-    while i < n {
-        if takes(rules[i], topic) {
-            return i;
-        }
-        i += 1;
-    }
-    i
 }
 
 // The rule with an equal pattern, which `add_rule` overwrites: its place, or where the rules end.

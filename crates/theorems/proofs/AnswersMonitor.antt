@@ -31,6 +31,16 @@ use Rattle.monitor.proofs.inspection.inspect as inspection-inspect
 use Rattle.monitor.proofs.inspection.inspect.Reads as inspection-inspect-reads
 use Rattle.monitor.proofs.message.type_number as message-type-number
 use Rattle.monitor.proofs.message.type_number.Reads as message-type-number-reads
+use Rattle.monitor.proofs.plan.seen_for as plan-seen-for
+use Rattle.monitor.proofs.plan.seen_for.Reads as plan-seen-for-reads
+use Rattle.monitor.proofs.plan.id_for as plan-id-for
+use Rattle.monitor.proofs.plan.id_for.Reads as plan-id-for-reads
+use Rattle.monitor.proofs.plan.spent_for as plan-spent-for
+use Rattle.monitor.proofs.plan.spent_for.Reads as plan-spent-for-reads
+use Rattle.monitor.proofs.plan.fed_for as plan-fed-for
+use Rattle.monitor.proofs.plan.fed_for.Reads as plan-fed-for-reads
+use Rattle.monitor.proofs.plan.plan_from as plan-plan-from
+use Rattle.monitor.proofs.plan.plan_from.Reads as plan-plan-from-reads
 use Rattle.monitor.proofs.plan.plan_for as plan-plan-for
 use Rattle.monitor.proofs.plan.plan_for.Reads as plan-plan-for-reads
 use Rattle.monitor.proofs.rule_calls.add_rule as rule-calls-add-rule
@@ -135,6 +145,36 @@ one-message-type-number κs a x y e f p q = p ∙ sym q
 
 pub any-message-type-number : Any message-type-number.ended message-type-number-reads.Asked
 any-message-type-number κs a = tt
+
+pub one-plan-seen-for : One plan-seen-for.ended plan-seen-for-reads.Post
+one-plan-seen-for κs a x y e f p q = p ∙ sym q
+
+pub any-plan-seen-for : Any plan-seen-for.ended plan-seen-for-reads.Asked
+any-plan-seen-for κs a = tt
+
+pub one-plan-id-for : One plan-id-for.ended plan-id-for-reads.Post
+one-plan-id-for κs a x y e f p q = p ∙ sym q
+
+pub any-plan-id-for : Any plan-id-for.ended plan-id-for-reads.Asked
+any-plan-id-for κs a = tt
+
+pub one-plan-spent-for : One plan-spent-for.ended plan-spent-for-reads.Post
+one-plan-spent-for κs a x y e f p q = p ∙ sym q
+
+pub any-plan-spent-for : Any plan-spent-for.ended plan-spent-for-reads.Asked
+any-plan-spent-for κs a = tt
+
+pub one-plan-fed-for : One plan-fed-for.ended plan-fed-for-reads.Post
+one-plan-fed-for κs a x y e f p q = p ∙ sym q
+
+pub any-plan-fed-for : Any plan-fed-for.ended plan-fed-for-reads.Asked
+any-plan-fed-for κs a = tt
+
+pub one-plan-plan-from : One plan-plan-from.ended plan-plan-from-reads.Post
+one-plan-plan-from κs a x y e f p q = p ∙ sym q
+
+pub any-plan-plan-from : Any plan-plan-from.ended plan-plan-from-reads.Asked
+any-plan-plan-from κs a = tt
 
 pub one-plan-plan-for : One plan-plan-for.ended plan-plan-for-reads.Post
 one-plan-plan-for κs a x y e f p q = p ∙ sym q

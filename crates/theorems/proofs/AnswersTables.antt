@@ -28,10 +28,12 @@ use Rattle.tables.proofs.rules.empty_rule as rules-empty-rule
 use Rattle.tables.proofs.rules.empty_rule.Reads as rules-empty-rule-reads
 use Rattle.tables.proofs.rules.check_qos_policy as rules-check-qos-policy
 use Rattle.tables.proofs.rules.check_qos_policy.Reads as rules-check-qos-policy-reads
+use Rattle.tables.proofs.rules.places as rules-places
+use Rattle.tables.proofs.rules.places.Reads as rules-places-reads
 use Rattle.tables.proofs.rules.rule_fine as rules-rule-fine
 use Rattle.tables.proofs.rules.rule_fine.Reads as rules-rule-fine-reads
-use Rattle.tables.proofs.rules.first_rule as rules-first-rule
-use Rattle.tables.proofs.rules.first_rule.Reads as rules-first-rule-reads
+use Rattle.tables.proofs.rules.takes as rules-takes
+use Rattle.tables.proofs.rules.takes.Reads as rules-takes-reads
 use Rattle.tables.proofs.rules.equal_rule as rules-equal-rule
 use Rattle.tables.proofs.rules.equal_rule.Reads as rules-equal-rule-reads
 use Rattle.tables.proofs.rules.shadow_count as rules-shadow-count
@@ -132,17 +134,23 @@ one-rules-check-qos-policy κs a x y e f p q = p ∙ sym q
 pub any-rules-check-qos-policy : Any rules-check-qos-policy.ended rules-check-qos-policy-reads.Asked
 any-rules-check-qos-policy κs a = tt
 
+pub one-rules-places : One rules-places.ended rules-places-reads.Post
+one-rules-places κs a x y e f p q = p ∙ sym q
+
+pub any-rules-places : Any rules-places.ended rules-places-reads.Asked
+any-rules-places κs a = tt
+
 pub one-rules-rule-fine : One rules-rule-fine.ended rules-rule-fine-reads.Post
 one-rules-rule-fine κs a x y e f p q = p ∙ sym q
 
 pub any-rules-rule-fine : Any rules-rule-fine.ended rules-rule-fine-reads.Asked
 any-rules-rule-fine κs a = tt
 
-pub one-rules-first-rule : One rules-first-rule.ended rules-first-rule-reads.Post
-one-rules-first-rule κs a x y e f p q = p ∙ sym q
+pub one-rules-takes : One rules-takes.ended rules-takes-reads.Post
+one-rules-takes κs a x y e f p q = p ∙ sym q
 
-pub any-rules-first-rule : Any rules-first-rule.ended rules-first-rule-reads.Asked
-any-rules-first-rule κs a = tt
+pub any-rules-takes : Any rules-takes.ended rules-takes-reads.Asked
+any-rules-takes κs a = tt
 
 pub one-rules-equal-rule : One rules-equal-rule.ended rules-equal-rule-reads.Post
 one-rules-equal-rule κs a x y e f p q = p ∙ sym q

@@ -1,57 +1,101 @@
--- `gate::rule_for` meets its contract: the search ended at the count or at the table's end, or its place is a rule's. Assumes nothing.
+-- `gate::rule_for` meets its contract. The invariant: `i` is at most the count, and the place of the first rule that takes the topic stands `i` places before the rest
+-- from `i` on. The measure is what is left of the count. Assumes nothing.
+use mathlib.Core.Path.{_≡_, sym, _∙_}
+use Prim.Native.Nat.{_≤_, _-_, _+_}
 use native.Mathlib.Omega.{arith}
 use borrow.Author.Needs.{needs}
+use lib.ListN.{length, take, drop}
 use Rattle.topics.specs.Matching.{portMatches}
+use Rattle.tables.specs.Rules.{firstRule}
+use Rattle.tables.specs.Scan.{find}
+use Rattle.tables.proofs.RuleLaws.{passing, seek-here, seek-next, seek-done}
 use Rattle.monitor.proofs.GateLaws.{ruled-none, ruled-here}
 use Rattle.monitor.proofs.gate.rule_for.Statement.{statement}
 use Rattle.monitor.proofs.gate.rule_for.Tie as tie
 
-first-rule-requires : tie.Need-first-rule-requires
-first-rule-requires c κs = search needs
+abbrev Inv-loop : tie.InvT-loop
+Inv-loop count default-action topic rules n i₀ i =
+    (i ≤ n) × (find (passing (portMatches topic)) (take count rules) ≡ i + find (passing (portMatches topic)) (drop i (take count rules)))
 
-ruled-by-default-requires : tie.Need-ruled-by-default-requires
-ruled-by-default-requires c κs = search needs
+abbrev μ-loop : tie.MeasureT-loop
+μ-loop count default-action topic rules n i₀ i = n - i
 
-returns : tie.Need-returns
-returns c =
-    let f = c .before .before in
-    let a = f .before .before .args in
-    ruled-none portMatches (a .t1) (a .count) (a .default-action) (a .topic .now) (f .first-rule .ensures) (omega arith) (c .ruled-by-default .ensures)
+places-requires : tie.Need-places-requires Inv-loop μ-loop
+places-requires c κs = search needs
 
-ruled-by-default-requires-2 : tie.Need-ruled-by-default-requires-2
-ruled-by-default-requires-2 c κs = search needs
+loop-holds : tie.Need-loop-holds Inv-loop μ-loop
+loop-holds c = search needs
 
-returns-2 : tie.Need-returns-2
-returns-2 c =
-    let f = c .before .before .before in
-    let a = f .before .before .args in
-    ruled-none portMatches (a .t1) (a .count) (a .default-action) (a .topic .now) (f .first-rule .ensures) (omega arith) (c .ruled-by-default2 .ensures)
+mul-rule : tie.Need-mul-rule Inv-loop μ-loop
+mul-rule c = search needs
 
-mul-ruled-by : tie.Need-mul-ruled-by
-mul-ruled-by c = search needs
+array-copy-out-rule : tie.Need-array-copy-out-rule Inv-loop μ-loop
+array-copy-out-rule c = search needs
 
-array-copy-out-ruled-by : tie.Need-array-copy-out-ruled-by
-array-copy-out-ruled-by c = search needs
+takes-requires : tie.Need-takes-requires Inv-loop μ-loop
+takes-requires c κs = search needs
 
-ruled-by-requires : tie.Need-ruled-by-requires
+ruled-by-requires : tie.Need-ruled-by-requires Inv-loop μ-loop
 ruled-by-requires c κs = search needs
 
-returns-3 : tie.Need-returns-3
-returns-3 c =
-    let f = c .before .before .before .before in
-    let a = f .before .before .args in
-    ruled-here portMatches (a .t1) (a .count) (a .default-action) (a .topic .now) (f .first-rule .ensures) (omega arith) (c .ruled-by .ensures)
+returns : tie.Need-returns Inv-loop μ-loop
+unfolding firstRule
+returns c =
+    let t = c .before .before .before .before in
+    let n = t .before .before in
+    let a = n .before .before .args in
+    let full : length (a .t1) ≡ 32 = search needs in
+    ruled-here portMatches (a .t1) (a .count) (a .default-action) (a .topic .now)
+    (seek-here (portMatches (a .topic .now)) (a .t1) (a .count) _ full (n .places .ensures) (t .before .loop .inv .1) (t .loop-test .taken)
+    (sym (c .before .before .takes .ensures) ∙ c .before .if1 .taken))
+    (omega arith) (c .ruled-by .ensures)
+
+add-i : tie.Need-add-i Inv-loop μ-loop
+add-i c = search needs
+
+loop-less : tie.Need-loop-less Inv-loop μ-loop
+loop-less c = search needs
+
+loop-again : tie.Need-loop-again Inv-loop μ-loop
+loop-again c =
+    let t = c .before .before .before in
+    let n = t .before .before in
+    let a = n .before .before .args in
+    let full : length (a .t1) ≡ 32 = search needs in (
+      omega arith,
+      seek-next (portMatches (a .topic .now)) (a .t1) (a .count) _ full (n .places .ensures) (t .before .loop .inv .1) (t .loop-test .taken)
+          (sym (c .before .takes .ensures) ∙ c .if1 .left),
+    )
+
+ruled-by-default-requires : tie.Need-ruled-by-default-requires Inv-loop μ-loop
+ruled-by-default-requires c κs = search needs
+
+returns-2 : tie.Need-returns-2 Inv-loop μ-loop
+unfolding firstRule
+returns-2 c =
+    let t = c .before in
+    let n = t .before .before in
+    let a = n .before .before .args in
+    let full : length (a .t1) ≡ 32 = search needs in
+    ruled-none portMatches (a .t1) (a .count) (a .default-action) (a .topic .now)
+    (seek-done (portMatches (a .topic .now)) (a .t1) (a .count) _ full (n .places .ensures) (t .before .loop .inv .1) (t .before .loop .inv .0) (t .loop-test .left))
+    (omega arith) (c .ruled-by-default .ensures)
 
 pub rule-for-spec : {M : Type 1} → statement M
 rule-for-spec =
     tie.close
     (tie.spec
-    first-rule-requires
-    ruled-by-default-requires
-    returns
-    ruled-by-default-requires-2
-    returns-2
-    mul-ruled-by
-    array-copy-out-ruled-by
+    Inv-loop
+    μ-loop
+    places-requires
+    loop-holds
+    mul-rule
+    array-copy-out-rule
+    takes-requires
     ruled-by-requires
-    returns-3)
+    returns
+    add-i
+    loop-less
+    loop-again
+    ruled-by-default-requires
+    returns-2)
