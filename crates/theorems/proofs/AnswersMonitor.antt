@@ -33,6 +33,8 @@ use Rattle.monitor.proofs.message.type_number as message-type-number
 use Rattle.monitor.proofs.message.type_number.Reads as message-type-number-reads
 use Rattle.monitor.proofs.plan.plan_for as plan-plan-for
 use Rattle.monitor.proofs.plan.plan_for.Reads as plan-plan-for-reads
+use Rattle.monitor.proofs.rule_calls.plan_rule as rule-calls-plan-rule
+use Rattle.monitor.proofs.rule_calls.plan_rule.Reads as rule-calls-plan-rule-reads
 use Rattle.monitor.proofs.rule_calls.add_rule as rule-calls-add-rule
 use Rattle.monitor.proofs.rule_calls.add_rule.Reads as rule-calls-add-rule-reads
 use Rattle.monitor.proofs.rule_calls.remove_rule as rule-calls-remove-rule
@@ -141,6 +143,12 @@ one-plan-plan-for κs a x y e f p q = p ∙ sym q
 
 pub any-plan-plan-for : Any plan-plan-for.ended plan-plan-for-reads.Asked
 any-plan-plan-for κs a = tt
+
+pub one-rule-calls-plan-rule : One rule-calls-plan-rule.ended rule-calls-plan-rule-reads.Post
+one-rule-calls-plan-rule κs a x y e f p q = p ∙ sym q
+
+pub any-rule-calls-plan-rule : Any rule-calls-plan-rule.ended rule-calls-plan-rule-reads.Asked
+any-rule-calls-plan-rule κs a = tt
 
 pub one-rule-calls-add-rule : One rule-calls-add-rule.ended rule-calls-add-rule-reads.Post
 one-rule-calls-add-rule κs a x y e f p q = p ∙ sym q
