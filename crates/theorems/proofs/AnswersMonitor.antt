@@ -45,6 +45,8 @@ use Rattle.monitor.proofs.rule_calls.clear_rules as rule-calls-clear-rules
 use Rattle.monitor.proofs.rule_calls.clear_rules.Reads as rule-calls-clear-rules-reads
 use Rattle.monitor.proofs.rule_calls.validate_rules as rule-calls-validate-rules
 use Rattle.monitor.proofs.rule_calls.validate_rules.Reads as rule-calls-validate-rules-reads
+use Rattle.monitor.proofs.state.free_rules as state-free-rules
+use Rattle.monitor.proofs.state.free_rules.Reads as state-free-rules-reads
 use Rattle.monitor.proofs.state.well_formed as state-well-formed
 use Rattle.monitor.proofs.state.well_formed.Reads as state-well-formed-reads
 
@@ -179,6 +181,12 @@ one-rule-calls-validate-rules κs a x y e f p q = p ∙ sym q
 
 pub any-rule-calls-validate-rules : Any rule-calls-validate-rules.ended rule-calls-validate-rules-reads.Asked
 any-rule-calls-validate-rules κs a = tt
+
+pub one-state-free-rules : One state-free-rules.ended state-free-rules-reads.Post
+one-state-free-rules κs a x y e f p q = p ∙ sym q
+
+pub any-state-free-rules : Any state-free-rules.ended state-free-rules-reads.Asked
+any-state-free-rules κs a = tt
 
 pub one-state-well-formed : One state-well-formed.ended state-well-formed-reads.Post
 one-state-well-formed κs a x y e f p q = p ∙ sym q

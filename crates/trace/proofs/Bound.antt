@@ -21,8 +21,7 @@ use Rattle.monitor.specs.declared.rule_calls.RulePlan.{RulePlan}
 use Rattle.monitor.specs.declared.state.Called.{Called}
 use Rattle.monitor.specs.declared.state.MqttMonitor.{MqttMonitor}
 use Rattle.trace.specs.Groups.{openingOf, ruleAt, messageAt}
-use Rattle.trace.specs.Trace.{Sent, ruleInto, rulesInto, loadedFrom, loaded, messagesFrom, messagesOf, textFrom, traceText, enough}
-use Rattle.trace.specs.declared.run.Loaded.{Loaded}
+use Rattle.trace.specs.Trace.{Sent, Loaded, ruleInto, rulesInto, loadedFrom, loaded, messagesFrom, messagesOf, textFrom, traceText, enough}
 use Rattle.trace.proofs.RecordLaws.{closing-short}
 use Rattle.trace.proofs.GroupLaws.{opening-within, rule-within, message-within, message-further}
 use Rattle.trace.proofs.PlanBounds.{choose, Counted, applied-counted, result-short}
