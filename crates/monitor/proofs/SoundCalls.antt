@@ -3,7 +3,7 @@
 use mathlib.Core.Bool.{Bool, true, false, cond, _&&_}
 use mathlib.Core.List.{List}
 use mathlib.Core.Path.{_≡_, refl}
-use Prim.Native.Nat.{ℕ, _+_, _%_, _^_, _≤_, _<_}
+use Prim.Native.Nat.{ℕ, _+_, _%_, _^_, _≤_, _<_, min}
 use native.Mathlib.Omega.{arith}
 use borrow.Author.Tests.{ltb-true, ltb-false, eqb-true, eqb-false}
 use lib.Dec.{eqb, ltb}
@@ -26,7 +26,7 @@ use Rattle.tables.specs.declared.rules.TopicRule.{TopicRule}
 use Rattle.tables.specs.declared.trackers.EwmaTracker.{EwmaTracker}
 use Rattle.tables.specs.declared.windows.ClientStormEntry.{ClientStormEntry}
 use Rattle.monitor.specs.Alerts.{idAfter, raise, raiseAll, kindsOf}
-use Rattle.monitor.specs.Calls.{fresh, tested, isHeld, addRefusal, addedTo, addRule, removeRule, swapRules, clearRules, setStorm, removeBucket, removeTracker, resetState}
+use Rattle.monitor.specs.Calls.{fresh, tested, isHeld, rulePlan, withRule, addRule, removeRule, swapRules, clearRules, setStorm, removeBucket, removeTracker, resetState}
 use Rattle.monitor.specs.Inspect.{storedAt, applied, inspectRefusal, inspectWith}
 use Rattle.monitor.specs.Message.{typeNumber, usedTopic, usedPayload}
 use Rattle.monitor.specs.Plan.{seenOf, spentOf, fedOf, gateIn, planFrom, planOf}
@@ -107,23 +107,26 @@ module _ {m : MqttMonitor} (s : Sound m) where
 
   -- `add_rule`
   added : (p : List ℕ) (action : TopicAction) (policy : QosPolicy) (rate : ℕ)
-      → cond (eqb (patternRefusal p) 0) (cond (isHeld m p) 0 (cond (ltb (m .«rule_count») 32) 0 6)) (patternRefusal p) ≡ 0
-      → Sound (addedTo m p action policy rate)
-  unfolding addedTo
+      → rulePlan (m .rules) (m .«rule_count») p action policy rate .number ≡ 0
+      → Sound (withRule m (rulePlan (m .rules) (m .«rule_count») p action policy rate))
+  unfolding rulePlan
   added p action policy rate =
+      let at = equalRule p (m .rules) (m .«rule_count») in
       by (eqb (patternRefusal p) 0)
       (λ e. rw e
-      (by (isHeld m p)
-      (λ f. rw f (λ o. with-rules (rule-overwritten ruled (equalRule p (m .rules) (m .«rule_count»)) action policy rate (ltb-true _ _ f))))
+      (by (isHeld (m .rules) (m .«rule_count») p)
+      (λ f. rw f (λ o. with-rules (rule-overwritten ruled at action policy rate (omega (arith, ltb-true at (min (m .«rule_count») 32) f)))))
       (λ f. rw f
       (by (ltb (m .«rule_count») 32)
-      (λ g. rw g (λ o. with-rules (rule-added ruled p action policy rate (eqb-true _ _ e) (ltb-true _ _ g) (ltb-false _ _ f))))
+      (λ g. rw g (λ o.
+      let room = ltb-true (m .«rule_count») 32 g in
+      with-rules (rule-added ruled p action policy rate (eqb-true _ _ e) room (omega (arith, room, ltb-false at (min (m .«rule_count») 32) f)))))
       (λ g. rw g (λ o. absurd (omega arith)))))))
       (λ e. rw e (λ o. absurd (eqb-false _ _ e o)))
 
   pub sound-add : (p : List ℕ) (action : TopicAction) (policy : QosPolicy) (rate : ℕ) → Sound (addRule m p action policy rate .monitor)
-  unfolding addRule addRefusal
-  sound-add p action policy rate = called _ _ (addedTo m p action policy rate) (added p action policy rate)
+  unfolding addRule
+  sound-add p action policy rate = called _ _ _ (added p action policy rate)
 
   -- `remove_rule`
   pub sound-remove : (at : ℕ) → Sound (removeRule m at .monitor)

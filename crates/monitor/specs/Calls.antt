@@ -16,6 +16,7 @@ use Rattle.tables.specs.declared.rules.QosPolicy.{QosPolicy}
 use Rattle.tables.specs.declared.rules.TopicAction.{TopicAction}
 use Rattle.tables.specs.declared.rules.TopicRule.{TopicRule}
 use Rattle.monitor.specs.State.{wellFormed, withRules, withSettings, withTables, withCounters, ended}
+use Rattle.monitor.specs.declared.rule_calls.RulePlan.{RulePlan}
 use Rattle.monitor.specs.declared.state.Called.{Called}
 use Rattle.monitor.specs.declared.state.MqttMonitor.{MqttMonitor}
 use Rattle.monitor.specs.declared.state.Outcome.{Outcome}
@@ -66,36 +67,42 @@ overwritten r action policy rate =
       active = r .active;
     }
 
--- an equal pattern is held
-abbrev pub isHeld : MqttMonitor → List ℕ → Bool
-isHeld m p = ltb (equalRule p (m .rules) (m .«rule_count»)) (m .«rule_count»)
+-- an equal pattern is held: it stands at a place that counts, of which there are 32
+abbrev pub isHeld : List TopicRule → ℕ → List ℕ → Bool
+isHeld rules n p = ltb (equalRule p rules n) (min n 32)
 
--- `add_rule`: 10, the pattern's own number, then 6 for a new rule where 32 are held
-unfoldable pub addRefusal : MqttMonitor → List ℕ → ℕ
-addRefusal m p =
-    tested m
-    (cond (eqb (patternRefusal p) 0)
-    (cond (isHeld m p) 0 (cond (ltb (m .«rule_count») 32) 0 6))
-    (patternRefusal p))
+-- a rule that a number refuses: it has no place, and the count is as given
+abbrev pub notTaken : ℕ → ℕ → RulePlan
+notTaken number n = record { number = number; at = 32; rule = emptyRule; count = n }
 
--- the rules after it: an equal pattern is overwritten in place, else the rule comes last
-unfoldable pub addedTo : MqttMonitor → List ℕ → TopicAction → QosPolicy → ℕ → MqttMonitor
-addedTo m p action policy rate =
-    cond (isHeld m p)
-    (withRules m
-    (set (m .rules) (equalRule p (m .rules) (m .«rule_count»))
-    (overwritten (getD (m .rules) (equalRule p (m .rules) (m .«rule_count»)) noRule) action policy rate))
-    (m .«rule_count»))
-    (withRules m (set (m .rules) (m .«rule_count») (ruleOf p action policy rate)) (m .«rule_count» + 1))
+-- where a rule goes in a table of n rules: the pattern's own number, then an equal pattern is overwritten in place, then 6 where 32 are held; else the rule comes last
+unfoldable pub rulePlan : List TopicRule → ℕ → List ℕ → TopicAction → QosPolicy → ℕ → RulePlan
+rulePlan rules n p action policy rate =
+    cond (eqb (patternRefusal p) 0)
+    (cond (isHeld rules n p)
+    (record {
+      number = 0;
+      at = equalRule p rules n;
+      rule = overwritten (getD rules (equalRule p rules n) noRule) action policy rate;
+      count = n;
+    })
+    (cond (ltb n 32) (record { number = 0; at = n; rule = ruleOf p action policy rate; count = n + 1 }) (notTaken 6 n)))
+    (notTaken (patternRefusal p) n)
+
+-- the state with a rule where its plan says
+abbrev pub withRule : MqttMonitor → RulePlan → MqttMonitor
+withRule m plan = withRules m (set (m .rules) (plan .at) (plan .rule)) (plan .count)
 
 -- the shadow count of a state
 abbrev pub shadowsIn : MqttMonitor → ℕ
 shadowsIn m = shadowCount (m .rules) (m .«rule_count»)
 
--- `add_rule` hands back the shadow count
+-- `add_rule`: 10, the plan's own number, else the rule is stored; it hands back the shadow count
+abbrev pub addPlanned : MqttMonitor → RulePlan → Called
+addPlanned m plan = ended (tested m (plan .number)) m (shadowsIn (withRule m plan)) (withRule m plan)
+
 unfoldable pub addRule : MqttMonitor → List ℕ → TopicAction → QosPolicy → ℕ → Called
-addRule m p action policy rate =
-    ended (addRefusal m p) m (shadowsIn (addedTo m p action policy rate)) (addedTo m p action policy rate)
+addRule m p action policy rate = addPlanned m (rulePlan (m .rules) (m .«rule_count») p action policy rate)
 
 -- a table of rules without the one at a place: later ones move up, and the last place is free
 unfoldable pub without : List TopicRule → ℕ → ℕ → List TopicRule

@@ -1,4 +1,5 @@
-// Calls on the rules (document 01, "Numbers handed back"; 000 `add_rule`, `remove_rule`, `swap_rules`, `clear_rules`, `validate_rules`).
+// Calls on the rules (document 01, "Numbers handed back"; 000 `add_rule`, `remove_rule`, `swap_rules`, `clear_rules`, `validate_rules`). Where a new rule goes is decided
+// from the table alone, so that whoever owns only a table can store it in place.
 use crate::state::Called;
 use crate::state::MqttMonitor;
 use crate::state::Outcome;
@@ -15,10 +16,11 @@ use tables::rules::shadow_count;
 use topics::patterns::pattern_refusal;
 ghost use mathlib.Core.List.{_++_};
 ghost use mathlib.Core.Path.{_≡_};
-ghost use Prim.Native.Nat.{_-_, _≤_, _<_};
+ghost use Prim.Native.Nat.{_-_, _≤_, _<_, min};
+ghost use lib.Dec.{ltb};
 ghost use lib.ListN.{length, take, set, replicate};
 ghost use Rattle.monitor.specs.State.{withRules};
-ghost use Rattle.monitor.specs.Calls.{ruleOf, overwritten, shadowsIn, addRule, without, removeRule, swapRules, clearRules, validateRules};
+ghost use Rattle.monitor.specs.Calls.{ruleOf, overwritten, notTaken, rulePlan, shadowsIn, addRule, without, removeRule, swapRules, clearRules, validateRules};
 
 // A pattern's bytes, zeros after them.
 fn padded(pattern: &[u8]) -> [u8; 64]
@@ -74,6 +76,73 @@ fn overwritten(
     }
 }
 
+// Where a rule goes: `rule` then stands at `at`, and `count` are held. Where `number` refuses it, `at` is no place and the count is as given.
+pub struct RulePlan {
+    pub number: u32,
+    pub at: usize,
+    pub rule: TopicRule,
+    pub count: u16,
+}
+
+// A rule that is refused.
+fn not_taken(number: u32, count: u16) -> RulePlan
+    ensures { λ r. ⌜ r ≡ notTaken number count ⌝ }
+{
+    RulePlan {
+        number,
+        at: 32,
+        rule: empty_rule(),
+        count,
+    }
+}
+
+// One of the places that count, whatever the count is.
+fn counts(at: usize, count: usize) -> bool
+    ensures { λ r. ⌜ r ≡ ltb at (min count 32) ⌝ }
+{
+    if 32 <= at {
+        return false;
+    }
+    at < count
+}
+
+// The pattern's own number comes first; an equal pattern is overwritten in place, even in a full table; a new rule comes last (document 01, `add_rule`).
+pub fn plan_rule(
+    rules: [TopicRule; 32],
+    rule_count: u16,
+    pattern: &[u8],
+    action: TopicAction,
+    qos_policy: QosPolicy,
+    max_rate_per_sec: u16,
+) -> RulePlan
+    ensures { λ r. ⌜ r ≡ rulePlan rules «rule_count» (now (pattern .entry)) action «qos_policy» «max_rate_per_sec» ⌝ }
+{
+    let number = pattern_refusal(pattern);
+    if number != 0 {
+        return not_taken(number, rule_count);
+    }
+    let count = rule_count as usize;
+    let at = equal_rule(rules, count, pattern);
+    if counts(at, count) {
+        let held = rules[at];
+        return RulePlan {
+            number: 0,
+            at,
+            rule: overwritten(held, action, qos_policy, max_rate_per_sec),
+            count: rule_count,
+        };
+    }
+    if 32 <= count {
+        return not_taken(6, rule_count);
+    }
+    RulePlan {
+        number: 0,
+        at: count,
+        rule: rule_of(pattern, action, qos_policy, max_rate_per_sec),
+        count: rule_count + 1,
+    }
+}
+
 // A rule is stored; the shadow count is of the table after it.
 fn stored(m: MqttMonitor, at: usize, rule: TopicRule, count: u16) -> Called
     requires { ⌜ at < 32 ⌝ }
@@ -86,7 +155,7 @@ fn stored(m: MqttMonitor, at: usize, rule: TopicRule, count: u16) -> Called
     done(next, shadow_count(rules, count as usize))
 }
 
-// The pattern's own number comes first; an equal pattern is overwritten in place, even in a full table; a new rule comes last (document 01, `add_rule`).
+// Adds a rule, or changes the settings of the one with its pattern; success hands back the shadow count.
 pub fn add_rule(
     m: MqttMonitor,
     pattern: &[u8],
@@ -99,23 +168,20 @@ pub fn add_rule(
     if !well_formed(m) {
         return refused(m, 10);
     }
-    let number = pattern_refusal(pattern);
-    if number != 0 {
-        return refused(m, number);
-    }
-    let count = m.rule_count as usize;
     let rules = m.rules;
-    let at = equal_rule(rules, count, pattern);
-    if at < count {
-        let held = rules[at];
-        let rule = overwritten(held, action, qos_policy, max_rate_per_sec);
-        return stored(m, at, rule, m.rule_count);
+    let plan = plan_rule(
+        rules,
+        m.rule_count,
+        pattern,
+        action,
+        qos_policy,
+        max_rate_per_sec,
+    );
+    if plan.number != 0 {
+        return refused(m, plan.number);
     }
-    if 32 <= count {
-        return refused(m, 6);
-    }
-    let rule = rule_of(pattern, action, qos_policy, max_rate_per_sec);
-    stored(m, count, rule, m.rule_count + 1)
+    let rule = plan.rule;
+    stored(m, plan.at, rule, plan.count)
 }
 
 // The rules without the one at a place: later ones move up, and the last place is free.

@@ -154,7 +154,7 @@ pub fn well_formed(m: MqttMonitor) -> bool
 }
 
 // A table without rules.
-pub(crate) fn free_rules() -> [TopicRule; 32]
+pub fn free_rules() -> [TopicRule; 32]
     ensures { λ r. ⌜ r ≡ replicate 32 emptyRule ⌝ }
 {
     let rule = empty_rule();

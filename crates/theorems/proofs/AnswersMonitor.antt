@@ -43,6 +43,8 @@ use Rattle.monitor.proofs.plan.plan_from as plan-plan-from
 use Rattle.monitor.proofs.plan.plan_from.Reads as plan-plan-from-reads
 use Rattle.monitor.proofs.plan.plan_for as plan-plan-for
 use Rattle.monitor.proofs.plan.plan_for.Reads as plan-plan-for-reads
+use Rattle.monitor.proofs.rule_calls.plan_rule as rule-calls-plan-rule
+use Rattle.monitor.proofs.rule_calls.plan_rule.Reads as rule-calls-plan-rule-reads
 use Rattle.monitor.proofs.rule_calls.add_rule as rule-calls-add-rule
 use Rattle.monitor.proofs.rule_calls.add_rule.Reads as rule-calls-add-rule-reads
 use Rattle.monitor.proofs.rule_calls.remove_rule as rule-calls-remove-rule
@@ -53,6 +55,8 @@ use Rattle.monitor.proofs.rule_calls.clear_rules as rule-calls-clear-rules
 use Rattle.monitor.proofs.rule_calls.clear_rules.Reads as rule-calls-clear-rules-reads
 use Rattle.monitor.proofs.rule_calls.validate_rules as rule-calls-validate-rules
 use Rattle.monitor.proofs.rule_calls.validate_rules.Reads as rule-calls-validate-rules-reads
+use Rattle.monitor.proofs.state.free_rules as state-free-rules
+use Rattle.monitor.proofs.state.free_rules.Reads as state-free-rules-reads
 use Rattle.monitor.proofs.state.well_formed as state-well-formed
 use Rattle.monitor.proofs.state.well_formed.Reads as state-well-formed-reads
 
@@ -182,6 +186,12 @@ one-plan-plan-for κs a x y e f p q = p ∙ sym q
 pub any-plan-plan-for : Any plan-plan-for.ended plan-plan-for-reads.Asked
 any-plan-plan-for κs a = tt
 
+pub one-rule-calls-plan-rule : One rule-calls-plan-rule.ended rule-calls-plan-rule-reads.Post
+one-rule-calls-plan-rule κs a x y e f p q = p ∙ sym q
+
+pub any-rule-calls-plan-rule : Any rule-calls-plan-rule.ended rule-calls-plan-rule-reads.Asked
+any-rule-calls-plan-rule κs a = tt
+
 pub one-rule-calls-add-rule : One rule-calls-add-rule.ended rule-calls-add-rule-reads.Post
 one-rule-calls-add-rule κs a x y e f p q = p ∙ sym q
 
@@ -211,6 +221,12 @@ one-rule-calls-validate-rules κs a x y e f p q = p ∙ sym q
 
 pub any-rule-calls-validate-rules : Any rule-calls-validate-rules.ended rule-calls-validate-rules-reads.Asked
 any-rule-calls-validate-rules κs a = tt
+
+pub one-state-free-rules : One state-free-rules.ended state-free-rules-reads.Post
+one-state-free-rules κs a x y e f p q = p ∙ sym q
+
+pub any-state-free-rules : Any state-free-rules.ended state-free-rules-reads.Asked
+any-state-free-rules κs a = tt
 
 pub one-state-well-formed : One state-well-formed.ended state-well-formed-reads.Post
 one-state-well-formed κs a x y e f p q = p ∙ sym q

@@ -26,7 +26,7 @@ use Rattle.tables.specs.declared.identity.Id.{Id}
 use Rattle.tables.specs.declared.rules.QosPolicy.the-variants.{Any}
 use Rattle.tables.specs.declared.rules.TopicAction.the-variants.{Allow}
 use Rattle.monitor.specs.Alerts.{severityOf, hashOf, kindsOf, raise, raiseAll}
-use Rattle.monitor.specs.Calls.{fresh, addRefusal, addedTo, addRule, validateRules}
+use Rattle.monitor.specs.Calls.{fresh, rulePlan, addRule, validateRules}
 use Rattle.monitor.specs.Gate.{rulingOf, gateAfter, gateOf}
 use Rattle.monitor.specs.Inspect.{applied, inspectRefusal, inspectWith}
 use Rattle.monitor.specs.Plan.{seenOf, spentOf, fedOf, denialOf, planFrom, planOf}
@@ -64,7 +64,7 @@ record Facts : Type 0 where
   quiet : answer portMatches (hub 2) message .result .«alert_count» ≡ 0
 
 facts : Facts
-unfolding bytes matchBytes fromSlash takesNone takesEnd firstLevel restLevels same has wellPlaced countOf patternRefusal fnv1a djb2 suffixHash prefixOf idOf isOf find leastOf refilled spend isExpired holdsBucket newcomer decide qosOk ruleFine equalRule firstRule covered shadowedAfter severityOf hashOf kindsOf raise raiseAll fresh addRefusal addedTo addRule rulingOf gateAfter gateOf applied inspectRefusal inspectWith seenOf spentOf fedOf denialOf planFrom planOf every wellFormed rateOf reaches hub publish isAmong arrived
+unfolding bytes matchBytes fromSlash takesNone takesEnd firstLevel restLevels same has wellPlaced countOf patternRefusal fnv1a djb2 suffixHash prefixOf idOf isOf find leastOf refilled spend isExpired holdsBucket newcomer decide qosOk ruleFine equalRule firstRule covered shadowedAfter severityOf hashOf kindsOf raise raiseAll fresh rulePlan addRule rulingOf gateAfter gateOf applied inspectRefusal inspectWith seenOf spentOf fedOf denialOf planFrom planOf every wellFormed rateOf reaches hub publish isAmong arrived
 facts =
     record {
       reached = refl;
@@ -178,7 +178,7 @@ count (Done n) = n
 count (Refused n) = 0
 
 shadows : (validateRules (hub 2) ≡ Done 0) × (validateRules shadowed ≡ Done 1)
-unfolding bytes matchBytes fromSlash takesNone takesEnd firstLevel restLevels same has wellPlaced countOf patternRefusal fnv1a djb2 suffixHash prefixOf idOf isOf find leastOf refilled spend isExpired holdsBucket newcomer decide qosOk ruleFine equalRule firstRule covered shadowedAfter severityOf hashOf kindsOf raise raiseAll fresh addRefusal addedTo addRule rulingOf gateAfter gateOf applied inspectRefusal inspectWith seenOf spentOf fedOf denialOf planFrom planOf every wellFormed rateOf reaches hub publish validateRules
+unfolding bytes matchBytes fromSlash takesNone takesEnd firstLevel restLevels same has wellPlaced countOf patternRefusal fnv1a djb2 suffixHash prefixOf idOf isOf find leastOf refilled spend isExpired holdsBucket newcomer decide qosOk ruleFine equalRule firstRule covered shadowedAfter severityOf hashOf kindsOf raise raiseAll fresh rulePlan addRule rulingOf gateAfter gateOf applied inspectRefusal inspectWith seenOf spentOf fedOf denialOf planFrom planOf every wellFormed rateOf reaches hub publish validateRules
 shadows = (refl, refl)
 
 invented-shadow : (v : MqttMonitor → Outcome) → ((m : MqttMonitor) → v m ≡ validateRules m) → (n : ℕ) → ¬ ((m : MqttMonitor) → v m ≡ Done n)

@@ -9,7 +9,7 @@ use Rattle.tables.specs.Identity.{prefixOf, idOf, isOf}
 use Rattle.tables.specs.Rules.{qosOk, ruleFine, equalRule, firstRule, covered, shadowedAfter}
 use Rattle.tables.specs.Scan.{find, leastOf}
 use Rattle.monitor.specs.Alerts.{severityOf, hashOf, kindsOf, raise, raiseAll}
-use Rattle.monitor.specs.Calls.{fresh, addRefusal, addedTo, addRule}
+use Rattle.monitor.specs.Calls.{fresh, rulePlan, addRule}
 use Rattle.monitor.specs.Gate.{rulingOf, gateAfter, gateOf}
 use Rattle.monitor.specs.Inspect.{applied, inspectRefusal, inspectWith}
 use Rattle.monitor.specs.Plan.{seenOf, spentOf, fedOf, denialOf, planFrom, planOf}
@@ -21,5 +21,5 @@ use Rattle.theorems.specs.Slips.{Slips}
 use Rattle.theorems.specs.Tight.{hub, publish, crowd}
 
 pub slips : Slips
-unfolding bytes matchBytes fromSlash takesNone takesEnd firstLevel restLevels same has wellPlaced countOf patternRefusal fnv1a djb2 suffixHash prefixOf idOf isOf find leastOf refilled spend isExpired holdsBucket newcomer decide qosOk ruleFine equalRule firstRule covered shadowedAfter severityOf hashOf kindsOf raise raiseAll fresh addRefusal addedTo addRule rulingOf gateAfter gateOf applied inspectRefusal inspectWith seenOf spentOf fedOf denialOf planFrom planOf every wellFormed after rateOf reaches allowedOf hub publish crowd
+unfolding bytes matchBytes fromSlash takesNone takesEnd firstLevel restLevels same has wellPlaced countOf patternRefusal fnv1a djb2 suffixHash prefixOf idOf isOf find leastOf refilled spend isExpired holdsBucket newcomer decide qosOk ruleFine equalRule firstRule covered shadowedAfter severityOf hashOf kindsOf raise raiseAll fresh rulePlan addRule rulingOf gateAfter gateOf applied inspectRefusal inspectWith seenOf spentOf fedOf denialOf planFrom planOf every wellFormed after rateOf reaches allowedOf hub publish crowd
 slips = record { replaced = refl; expired = refl; capped = refl }

@@ -15,7 +15,7 @@ use Rattle.tables.specs.declared.identity.Id.{Id}
 use Rattle.tables.specs.declared.buckets.RateBucket.{RateBucket}
 use Rattle.tables.proofs.IdentityLaws.{OfTopic, of-topic}
 use Rattle.tables.proofs.StepLaws.{bucketAt, Absent, Step, hit, put, step}
-use Rattle.monitor.specs.Calls.{fresh, tested, setStorm, addRule, addRefusal, addedTo, isHeld}
+use Rattle.monitor.specs.Calls.{fresh, tested, setStorm, rulePlan, addRule}
 use Rattle.monitor.specs.Inspect.{inspectRefusal}
 use Rattle.monitor.specs.Plan.{gateIn}
 use Rattle.monitor.specs.State.{wellFormed}
@@ -105,11 +105,11 @@ on-run matcher k (c ∷ cs) = on-run matcher (on matcher k c) cs
 
 -- a monitor that only rules and settings were loaded into has no live bucket
 pub all-free : {m : MqttMonitor} → Prepared m → m .«rate_buckets» ≡ replicate 32 emptyBucket
-unfolding fresh setStorm addRule addedTo
+unfolding fresh setStorm addRule
 all-free (made default) = refl
 all-free (storm {m} p threshold window) = by (eqb (tested m 0) 0) (λ e. rw e (all-free p)) (λ e. rw e (all-free p))
 all-free (rule {m} p pattern action policy rate) =
-    by (eqb (addRefusal m pattern) 0) (λ e. by (isHeld m pattern) (λ h. rw (e, h) (all-free p)) (λ h. rw (e, h) (all-free p))) (λ e. rw e (all-free p))
+    by (eqb (tested m (rulePlan (m .rules) (m .«rule_count») pattern action policy rate .number)) 0) (λ e. rw e (all-free p)) (λ e. rw e (all-free p))
 
 pub free-place : (j : ℕ) → bucketAt (replicate 32 emptyBucket) j .active ≡ false
 free-place j =

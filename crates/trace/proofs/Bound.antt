@@ -14,13 +14,14 @@ use Rattle.topics.specs.Patterns.{wellPlaced, countOf, patternRefusal}
 use Rattle.lines.proofs.Cases.{by}
 use Rattle.tables.specs.declared.rules.QosPolicy.{QosPolicy}
 use Rattle.tables.specs.declared.rules.TopicAction.{TopicAction}
-use Rattle.monitor.specs.Calls.{fresh, isHeld, addRefusal, addedTo, addRule}
+use Rattle.tables.specs.declared.rules.TopicRule.{TopicRule}
+use Rattle.monitor.specs.Calls.{fresh, tested, isHeld, rulePlan, addRule}
 use Rattle.monitor.specs.State.{wellFormed, numberOf}
+use Rattle.monitor.specs.declared.rule_calls.RulePlan.{RulePlan}
 use Rattle.monitor.specs.declared.state.Called.{Called}
 use Rattle.monitor.specs.declared.state.MqttMonitor.{MqttMonitor}
 use Rattle.trace.specs.Groups.{openingOf, ruleAt, messageAt}
-use Rattle.trace.specs.Trace.{Sent, ruleInto, rulesInto, loadedFrom, loaded, messagesFrom, messagesOf, textFrom, traceText, enough}
-use Rattle.trace.specs.declared.run.Loaded.{Loaded}
+use Rattle.trace.specs.Trace.{Sent, Loaded, ruleInto, rulesInto, loadedFrom, loaded, messagesFrom, messagesOf, textFrom, traceText, enough}
 use Rattle.trace.proofs.RecordLaws.{closing-short}
 use Rattle.trace.proofs.GroupLaws.{opening-within, rule-within, message-within, message-further}
 use Rattle.trace.proofs.PlanBounds.{choose, Counted, applied-counted, result-short}
@@ -55,12 +56,10 @@ sent-few (suc k) s at line =
     (λ u. rw (t, u) (omega arith, omega (arith, w .known), omega (arith, w .line))))
 
 add-counted : (m : MqttMonitor) (p : List ℕ) (action : TopicAction) (policy : QosPolicy) (rate : ℕ) → Counted m → Counted (addRule m p action policy rate .monitor)
-unfolding addRule addedTo
+unfolding addRule
 add-counted m p action policy rate c =
-    choose (λ (x : Called). Counted (x .monitor)) (eqb (addRefusal m p) 0)
-    (choose Counted (isHeld m p)
+    choose (λ (x : Called). Counted (x .monitor)) (eqb (tested m (rulePlan (m .rules) (m .«rule_count») p action policy rate .number)) 0)
     (record { id64 = c .id64; inspected64 = c .inspected64; total64 = c .total64 })
-    (record { id64 = c .id64; inspected64 = c .inspected64; total64 = c .total64 }))
     c
 
 pattern-known : (p : List ℕ) → patternRefusal p ≤ 27
@@ -71,19 +70,19 @@ pattern-known p =
     (choose (λ (n : ℕ). n ≤ 27) (leb (countOf 43 p) 3) (choose (λ (n : ℕ). n ≤ 27) (wellPlaced (levels p)) (omega arith) (omega arith)) (omega arith)))
     (omega arith)
 
-refusal-known : (m : MqttMonitor) (p : List ℕ) → addRefusal m p ≤ 27
-unfolding addRefusal
-refusal-known m p =
-    choose (λ (n : ℕ). n ≤ 27) (wellFormed m)
-    (choose (λ (n : ℕ). n ≤ 27) (eqb (patternRefusal p) 0)
-    (choose (λ (n : ℕ). n ≤ 27) (isHeld m p) (omega arith) (choose (λ (n : ℕ). n ≤ 27) (ltb (m .«rule_count») 32) (omega arith) (omega arith)))
-    (pattern-known p))
-    (omega arith)
+plan-known : (rules : List TopicRule) (n : ℕ) (p : List ℕ) (action : TopicAction) (policy : QosPolicy) (rate : ℕ) → rulePlan rules n p action policy rate .number ≤ 27
+unfolding rulePlan
+plan-known rules n p action policy rate =
+    choose (λ (d : RulePlan). d .number ≤ 27) (eqb (patternRefusal p) 0)
+    (choose (λ (d : RulePlan). d .number ≤ 27) (isHeld rules n p) (omega arith) (choose (λ (d : RulePlan). d .number ≤ 27) (ltb n 32) (omega arith) (omega arith)))
+    (pattern-known p)
 
 add-known : (m : MqttMonitor) (p : List ℕ) (action : TopicAction) (policy : QosPolicy) (rate : ℕ) → numberOf (addRule m p action policy rate .outcome) ≤ 27
 unfolding addRule
 add-known m p action policy rate =
-    choose (λ (x : Called). numberOf (x .outcome) ≤ 27) (eqb (addRefusal m p) 0) (omega arith) (refusal-known m p)
+    let d = rulePlan (m .rules) (m .«rule_count») p action policy rate in
+    choose (λ (x : Called). numberOf (x .outcome) ≤ 27) (eqb (tested m (d .number)) 0) (omega arith)
+    (choose (λ (n : ℕ). n ≤ 27) (wellFormed m) (plan-known (m .rules) (m .«rule_count») p action policy rate) (omega arith))
 
 -- what was loaded, after at most so many lines
 pub record Few (l : Loaded) (lines : ℕ) : Type 0 where

@@ -14,18 +14,21 @@ use Rattle.topics.specs.Matching.{portMatches}
 use Rattle.lines.specs.Wrote.{Wrote, placeAfter}
 use Rattle.lines.proofs.Cases.{by}
 use Rattle.lines.proofs.WroteLaws.{wrote-then}
+use Rattle.monitor.specs.Calls.{fresh}
 use Rattle.monitor.specs.Inspect.{applied, resultOf}
 use Rattle.monitor.specs.Plan.{planOf}
+use Rattle.monitor.specs.State.{withRules}
 use Rattle.monitor.specs.declared.plan.Plan.{Plan}
 use Rattle.monitor.specs.declared.state.MqttMonitor.{MqttMonitor}
 use Rattle.trace.specs.Groups.{messageAt, topicIn, payloadIn}
 use Rattle.trace.specs.Record.{recordText, closingText}
-use Rattle.trace.specs.Trace.{Sent, Messages, endedBy, sentFirst, planned, loaded, messagesFrom, messagesOf, textFrom, traceText, enough, putIf, wholeEnd}
+use Rattle.trace.specs.Trace.{Sent, Messages, endedBy, sentFirst, planned, loaded, rulesOf, messagesFrom, messagesOf, textFrom, traceText, enough, putIf, wholeEnd}
 use Rattle.trace.specs.declared.groups.MessageLines.{MessageLines}
-use Rattle.trace.specs.declared.run.Loaded.{Loaded}
+use Rattle.trace.specs.declared.run.LoadedRules.{LoadedRules}
 use Rattle.trace.specs.declared.run.TraceEnd.{TraceEnd}
 use Rattle.trace.proofs.Bound.{loaded-few, loaded-short, trace-enough}
 use Rattle.trace.proofs.GroupLaws.{message-further}
+use Rattle.trace.proofs.LoadLaws.{loaded-monitor}
 
 -- a message that was read ends further on
 pub read-further : (s : List ℕ) (at : ℕ) {r : MessageLines} → r ≡ messageAt s at → r .number ≡ 0 → at + 44 ≤ r .next
@@ -123,23 +126,55 @@ loaded-messages : (s : List ℕ) → loaded s .number ≡ 0 → messagesOf s ≡
 unfolding messagesOf
 loaded-messages s z = rw (eq-eqb _ _ z)
 
--- it begins where the rules are loaded
-pub going-start : (s : List ℕ) (write : Bool) (d : List ℕ) {l : Loaded} → l ≡ loaded s → l .number ≡ 0 → Going s write d d (l .monitor) 1 (l .next) (l .line) 0
-unfolding traceText
-going-start s write d e z =
-    let y : loaded s .number ≡ 0 = rw e at z in
-    let t = loaded-messages s y in
-    rw e
-    (record {
-      short = loaded-short s y;
-      lines = omega (arith, loaded-few s .line);
-      ordinal = omega arith;
-      long = refl;
-      count = rw t (omega arith);
-      bytes = rw t;
-      number = rw t;
-      last = rw t;
-    })
+-- a pass begins with a fresh monitor that gets the rules
+module _ (s : List ℕ) {l : LoadedRules} (e : l ≡ rulesOf (loaded s)) {m : MqttMonitor} (f : m ≡ fresh (l .«default_action»)) where
+  monitor-is : withRules m (l .rules) (l .«rule_count») ≡ loaded s .monitor
+  monitor-is = rw (f, e) (loaded-monitor s)
+
+  number-is : loaded s .number ≡ l .number
+  number-is = ap (λ (x : LoadedRules). x .number) (sym e)
+
+  line-is : loaded s .line ≡ l .line
+  line-is = ap (λ (x : LoadedRules). x .line) (sym e)
+
+  next-is : loaded s .next ≡ l .next
+  next-is = ap (λ (x : LoadedRules). x .next) (sym e)
+
+  -- the messages are taken from the place after the rules
+  pub going-start : (write : Bool) (d : List ℕ) → l .number ≡ 0 → Going s write d d (withRules m (l .rules) (l .«rule_count»)) 1 (l .next) (l .line) 0
+  unfolding traceText
+  going-start write d z =
+      let y : loaded s .number ≡ 0 = number-is ∙ z in
+      let t = loaded-messages s y in
+      rw (monitor-is, ← next-is, ← line-is)
+      (record {
+        short = loaded-short s y;
+        lines = omega (arith, loaded-few s .line);
+        ordinal = omega arith;
+        long = refl;
+        count = rw t (omega arith);
+        bytes = rw t;
+        number = rw t;
+        last = rw t;
+      })
+
+  -- where the rules were not loaded, a trace has only its closing lines
+  module _ (z : l .number ≡ 0 → ⊥) where
+    pub unloaded-text : traceText s ≡ closingText (l .number) (l .line) (m .«total_inspected») (m .«total_alerts»)
+    unfolding traceText messagesOf textFrom
+    unloaded-text =
+        let i : loaded s .monitor .«total_inspected» ≡ m .«total_inspected» = ap (λ (x : MqttMonitor). x .«total_inspected») (sym monitor-is) in
+        let a : loaded s .monitor .«total_alerts» ≡ m .«total_alerts» = ap (λ (x : MqttMonitor). x .«total_alerts») (sym monitor-is) in
+        rw (number-is, ne-eqb _ _ z, line-is, i, a)
+
+    unloaded-messages : messagesOf s ≡ endedBy (l .number) (l .line)
+    unfolding messagesOf
+    unloaded-messages = rw (number-is, ne-eqb _ _ z, line-is)
+
+    pub unloaded-end : {r : TraceEnd} → r ≡ record { number = l .number; line = l .line; length = 0 + length (closingText (l .number) (l .line) (m .«total_inspected») (m .«total_alerts»)) } → r ≡ wholeEnd s
+    unloaded-end q =
+        let c : 0 + length (traceText s) ≡ length (traceText s) = omega arith in
+        q ∙ rw (← unloaded-text, c, unloaded-messages)
 
 module _ {s : List ℕ} {write : Bool} {d₀ d : List ℕ} {m : MqttMonitor} {n at line p : ℕ} (g : Going s write d₀ d m n at line p) where
   -- its place is one of a buffer that is enough
@@ -192,18 +227,3 @@ module _ {s : List ℕ} {write : Bool} {d₀ d : List ℕ} {m : MqttMonitor} {n 
 
       pub close-bytes : {e : List ℕ} → e ≡ putIf write d p (closingText number last (m .«total_inspected») (m .«total_alerts»)) → e ≡ putIf write d₀ 0 (traceText s)
       close-bytes e = e ∙ (rw close-text at (g .bytes))
-
--- a trace whose rules were not loaded has only its closing lines
-module _ (s : List ℕ) {l : Loaded} (e : l ≡ loaded s) (z : l .number ≡ 0 → ⊥) where
-  pub unloaded-text : traceText s ≡ closingText (l .number) (l .line) (l .monitor .«total_inspected») (l .monitor .«total_alerts»)
-  unfolding traceText messagesOf textFrom
-  unloaded-text = rw (← e, ne-eqb _ _ z)
-
-  unloaded-messages : messagesOf s ≡ endedBy (l .number) (l .line)
-  unfolding messagesOf
-  unloaded-messages = rw (← e, ne-eqb _ _ z)
-
-  pub unloaded-end : {r : TraceEnd} → r ≡ record { number = l .number; line = l .line; length = 0 + length (closingText (l .number) (l .line) (l .monitor .«total_inspected») (l .monitor .«total_alerts»)) } → r ≡ wholeEnd s
-  unloaded-end q =
-      let c : 0 + length (traceText s) ≡ length (traceText s) = omega arith in
-      q ∙ rw (← unloaded-text, c, unloaded-messages)

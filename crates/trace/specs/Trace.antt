@@ -19,7 +19,7 @@ use Rattle.trace.specs.Groups.{openingOf, ruleAt, patternIn, messageAt, 
 use Rattle.trace.specs.Record.{recordText, closingText}
 use Rattle.trace.specs.declared.groups.OpeningLines.{OpeningLines}
 use Rattle.trace.specs.declared.groups.RuleLines.{RuleLines}
-use Rattle.trace.specs.declared.run.Loaded.{Loaded}
+use Rattle.trace.specs.declared.run.LoadedRules.{LoadedRules}
 use Rattle.trace.specs.declared.run.TraceEnd.{TraceEnd}
 
 -- a message with its topic and payload
@@ -33,6 +33,13 @@ pub record Messages : Type 0 where
   pub sent : List Sent
   pub number : ℕ
   pub line : ℕ
+
+-- what an opening and its rules gave: a monitor, or the number and line of the refusal; `next` is the place after the last line read
+pub record Loaded : Type 0 where
+  pub number : ℕ
+  pub line : ℕ
+  pub next : ℕ
+  pub monitor : MqttMonitor
 
 -- the rules were not loaded
 abbrev pub notLoaded : ℕ → ℕ → ℕ → MqttMonitor → Loaded
@@ -65,6 +72,18 @@ loadedFrom s o =
 -- 27 for input over 65,536 bytes is tested first, line 0
 unfoldable pub loaded : List ℕ → Loaded
 loaded s = cond (leb (length s) 65536) (loadedFrom s (openingOf s)) (notLoaded 27 0 0 (fresh Allow))
+
+-- the part of the monitor that loading changes
+abbrev pub rulesOf : Loaded → LoadedRules
+rulesOf l =
+    record {
+      number = l .number;
+      line = l .line;
+      next = l .next;
+      «default_action» = l .monitor .«default_action»;
+      «rule_count» = l .monitor .«rule_count»;
+      rules = l .monitor .rules;
+    }
 
 -- no more messages
 abbrev pub endedBy : ℕ → ℕ → Messages

@@ -1,4 +1,5 @@
-// A whole trace: text in, text out (document 01, "The trace"). The rules are loaded into a fresh monitor; then one loop owns the monitor and takes message after message.
+// A whole trace: text in, text out (document 01, "The trace"). The rules are loaded into a table; then one loop owns the monitor that has them and takes message after
+// message.
 use crate::groups::read_message;
 use crate::groups::read_opening;
 use crate::groups::read_rule;
@@ -11,19 +12,19 @@ use monitor::alerts::count_on;
 use monitor::calls::new;
 use monitor::calls::new_deny_default;
 use monitor::plan::plan_for;
-use monitor::rule_calls::add_rule;
+use monitor::rule_calls::plan_rule;
 use monitor::state::MqttMonitor;
-use monitor::state::Outcome;
+use monitor::state::free_rules;
 use tables::rules::TopicAction;
+use tables::rules::TopicRule;
 ghost use mathlib.Core.Bool.{true};
 ghost use mathlib.Core.Path.{_≡_};
 ghost use Prim.Native.Nat.{_+_, _≤_};
 ghost use lib.Dec.{leb};
 ghost use lib.ListN.{length};
 ghost use Rattle.monitor.specs.Calls.{fresh};
-ghost use Rattle.monitor.specs.State.{numberOf};
 ghost use Rattle.trace.specs.Record.{recordText, closingText};
-ghost use Rattle.trace.specs.Trace.{loaded, traceText, enough, putIf, wholeEnd, traceEnd, traceKept};
+ghost use Rattle.trace.specs.Trace.{loaded, rulesOf, traceText, enough, putIf, wholeEnd, traceEnd, traceKept};
 
 // Room for what any trace prints.
 const ENOUGH: usize = 786432;
@@ -36,12 +37,14 @@ pub struct TraceEnd {
     pub length: usize,
 }
 
-// What an opening and its rules gave: a monitor, or the number and line of the refusal; `next` is the place after the last line read.
-pub struct Loaded {
+// What an opening and its rules gave: a monitor's default and its rules, and where a number refused them its line; `next` is the place after the last line read.
+pub struct LoadedRules {
     pub number: u32,
     pub line: u64,
     pub next: usize,
-    pub monitor: MqttMonitor,
+    pub default_action: TopicAction,
+    pub rule_count: u16,
+    pub rules: [TopicRule; 32],
 }
 
 // A monitor without rules, by its default.
@@ -51,16 +54,6 @@ fn started(default_action: TopicAction) -> MqttMonitor
     match default_action {
         TopicAction::Allow => new(),
         TopicAction::Block => new_deny_default(),
-    }
-}
-
-// The number that refused a call, 0 for none.
-fn number_of(outcome: Outcome) -> u32
-    ensures { λ r. ⌜ r ≡ numberOf outcome ⌝ }
-{
-    match outcome {
-        Outcome::Done(_) => 0,
-        Outcome::Refused(number) => number,
     }
 }
 
@@ -78,28 +71,34 @@ fn buffer_256() -> [u8; 256]
     [0; 256]
 }
 
-// The opening and its rules. 27 is tested first; a rule that is refused gives its number at its `rate=` line, and rules before it stay loaded.
-pub fn load(text: &[u8]) -> Loaded
-    ensures { λ r. ⌜ r ≡ loaded (now (text .entry)) ⌝ }
+// The opening and its rules. 27 is tested first; a rule that is refused gives its number at its `rate=` line, and rules before it stay loaded. The table of rules is
+// the only part of a monitor that is owned here, and each rule is stored in place.
+pub fn load(text: &[u8]) -> LoadedRules
+    ensures { λ r. ⌜ r ≡ rulesOf (loaded (now (text .entry))) ⌝ }
 {
+    let mut rules = free_rules();
+    let mut rule_count = 0;
     if 65536 < text.len() {
-        return Loaded {
+        return LoadedRules {
             number: 27,
             line: 0,
             next: 0,
-            monitor: new(),
+            default_action: TopicAction::Allow,
+            rule_count,
+            rules,
         };
     }
     let opening = read_opening(text);
     let default_action = opening.default_action;
-    let mut m = started(default_action);
     let mut at = opening.next;
     if opening.number != 0 {
-        return Loaded {
+        return LoadedRules {
             number: opening.number,
             line: 1 + opening.line as u64,
             next: at,
-            monitor: m,
+            default_action,
+            rule_count,
+            rules,
         };
     }
     let mut pattern = buffer_128();
@@ -109,37 +108,50 @@ pub fn load(text: &[u8]) -> Loaded
         let rule = read_rule(text, at, &mut pattern);
         at = rule.next;
         if rule.number != 0 {
-            return Loaded {
+            return LoadedRules {
                 number: rule.number,
                 line: line + 1 + rule.line as u64,
                 next: at,
-                monitor: m,
+                default_action,
+                rule_count,
+                rules,
             };
         }
         let n = (rule.pattern_to - rule.pattern_from) / 2;
         let action = rule.action;
         let qos_policy = rule.qos_policy;
-        let called = add_rule(m, &pattern[..n], action, qos_policy, rule.rate);
-        let outcome = called.outcome;
-        let number = number_of(outcome);
-        let next = called.monitor;
-        m = next;
+        let plan = plan_rule(
+            rules,
+            rule_count,
+            &pattern[..n],
+            action,
+            qos_policy,
+            rule.rate,
+        );
         line += 4;
         left -= 1;
-        if number != 0 {
-            return Loaded {
-                number,
+        if plan.number != 0 {
+            return LoadedRules {
+                number: plan.number,
                 line,
                 next: at,
-                monitor: m,
+                default_action,
+                rule_count,
+                rules,
             };
         }
+        let place = plan.at;
+        let taken = plan.rule;
+        rules[place] = taken;
+        rule_count = plan.count;
     }
-    Loaded {
+    LoadedRules {
         number: 0,
         line,
         next: at,
-        monitor: m,
+        default_action,
+        rule_count,
+        rules,
     }
 }
 
@@ -192,7 +204,11 @@ fn pass(text: &[u8], out: &mut [u8], write: bool) -> TraceEnd
     ensures bytes { λ _. ⌜ now (out .exit) ≡ putIf write (now (out .entry)) 0 (traceText (now (text .entry))) ⌝ }
 {
     let start = load(text);
-    let mut m = start.monitor;
+    let default_action = start.default_action;
+    let rules = start.rules;
+    let mut m = started(default_action);
+    m.rules = rules;
+    m.rule_count = start.rule_count;
     let mut at = start.next;
     let mut line = start.line;
     if start.number != 0 {

@@ -1,65 +1,59 @@
--- `trace::run::load` meets its contract. The invariant: what is left of the rules, loaded into the monitor after the lines that were read, is what the text loads; the measure: the rules that are left.
--- Assumes nothing.
+-- `trace::run::load` meets its contract. The invariant: what is left of the rules, loaded after the lines that were read into a fresh monitor with the rules of the table, is what the text loads; the
+-- measure: the rules that are left. Assumes nothing.
 use lib.Seq.{length-take-le}
 use mathlib.Core.Path.{_≡_, refl, sym}
-use Prim.Native.Nat.{_-_, _/_, _≤_}
+use Prim.Native.Nat.{_-_, _/_, _≤_, _<_}
 use native.Mathlib.Omega.{arith}
 use lib.ListN.{length, take}
-use borrow.Author.Tests.{ne-eqb, le-leb, lt-leb}
 use borrow.Author.Needs.{needs}
+use Rattle.monitor.proofs.AddLaws.{plan-place}
 use Rattle.trace.specs.Groups.{patternIn}
-use Rattle.trace.specs.Trace.{loaded, loadedFrom}
-use Rattle.trace.proofs.LoadLaws.{Loading, load-start, load-stop, load-refused, load-turn, load-end}
+use Rattle.trace.proofs.LoadLaws.{Loading, load-long, load-none, load-start, load-stop, load-refused, load-turn, load-end}
 use Rattle.trace.proofs.BufferLaws.{pattern-part}
 use Rattle.trace.proofs.run.load.Statement.{statement}
 use Rattle.trace.proofs.run.load.Tie as tie
 
 abbrev Inv-loop : tie.InvT-loop
-Inv-loop text m₀ at₀ pattern₀ line₀ left₀ m at pattern line left = Loading text left line at m × (length pattern ≡ 128)
+Inv-loop text rules₀ rule-count₀ default-action at₀ pattern₀ line₀ left₀ rules rule-count at pattern line left = Loading text left line at default-action rules rule-count × (length pattern ≡ 128)
 
 abbrev μ-loop : tie.MeasureT-loop
-μ-loop text m₀ at₀ pattern₀ line₀ left₀ m at pattern line left = left
+μ-loop text rules₀ rule-count₀ default-action at₀ pattern₀ line₀ left₀ rules rule-count at pattern line left = left
 
-new-requires : tie.Need-new-requires Inv-loop μ-loop
-new-requires c κs = search needs
+free-rules-requires : tie.Need-free-rules-requires Inv-loop μ-loop
+free-rules-requires c κs = search needs
 
 returns : tie.Need-returns Inv-loop μ-loop
-unfolding loaded
-returns c = rw (lt-leb _ _ (c .before .if1 .taken), c .new .ensures)
+returns c = load-long _ (c .if1 .taken) (c .before .free-rules .ensures)
 
 read-opening-requires : tie.Need-read-opening-requires Inv-loop μ-loop
 read-opening-requires c κs = search needs
 
-started-requires : tie.Need-started-requires Inv-loop μ-loop
-started-requires c κs = search needs
+cast-t22 : tie.Need-cast-t22 Inv-loop μ-loop
+cast-t22 c = omega (arith, c .before .before .before .read-opening .ensures .1 .line)
 
-cast-t20 : tie.Need-cast-t20 Inv-loop μ-loop
-cast-t20 c = omega (arith, c .before .before .before .before .read-opening .ensures .1 .line)
-
-add-t21 : tie.Need-add-t21 Inv-loop μ-loop
-add-t21 c = omega (arith, c .before .before .before .before .read-opening .ensures .1 .line)
+add-t23 : tie.Need-add-t23 Inv-loop μ-loop
+add-t23 c = omega (arith, c .before .before .before .read-opening .ensures .1 .line)
 
 returns-2 : tie.Need-returns-2 Inv-loop μ-loop
-unfolding loaded loadedFrom
-returns-2 c = rw (le-leb _ _ (c .before .before .before .before .before .if1 .left), ← c .before .before .before .before .read-opening .ensures .0, ne-eqb _ _ (c .before .if2 .taken), c .before .before .before .started .ensures)
+returns-2 c = load-none _ (c .before .before .before .before .if1 .left) (c .before .before .before .read-opening .ensures .0) (c .before .if2 .taken) (c .before .before .before .before .before .free-rules .ensures)
 
 buffer-128-requires : tie.Need-buffer-128-requires Inv-loop μ-loop
 buffer-128-requires c κs = search needs
 
 loop-holds : tie.Need-loop-holds Inv-loop μ-loop
-loop-holds c = (load-start _ (c .before .before .before .before .before .if1 .left) (c .before .before .before .before .read-opening .ensures .0) (c .before .if2 .left) (c .before .before .before .started .ensures), c .buffer-128 .ensures)
+loop-holds c = (load-start _ (c .before .before .before .before .if1 .left) (c .before .before .before .read-opening .ensures .0) (c .before .if2 .left) (c .before .before .before .before .before .free-rules .ensures), c .buffer-128 .ensures)
 
 read-rule-requires : tie.Need-read-rule-requires Inv-loop μ-loop
 read-rule-requires c κs = search needs
 
-add-t25 : tie.Need-add-t25 Inv-loop μ-loop
-add-t25 c = omega (arith, c .before .before .before .before .before .loop .inv .0 .short, c .before .before .read-rule .ensures .1 .0 .line)
+add-t28 : tie.Need-add-t28 Inv-loop μ-loop
+add-t28 c = omega (arith, c .before .before .before .before .before .loop .inv .0 .short, c .before .before .read-rule .ensures .1 .0 .line)
 
-cast-t26 : tie.Need-cast-t26 Inv-loop μ-loop
-cast-t26 c = omega (arith, c .before .before .before .before .before .before .loop .inv .0 .short, c .before .before .before .read-rule .ensures .1 .0 .line)
+cast-t29 : tie.Need-cast-t29 Inv-loop μ-loop
+cast-t29 c = omega (arith, c .before .before .before .before .before .before .loop .inv .0 .short, c .before .before .before .read-rule .ensures .1 .0 .line)
 
-add-t27 : tie.Need-add-t27 Inv-loop μ-loop
-add-t27 c = omega (arith, c .before .before .before .before .before .before .loop .inv .0 .short, c .before .before .before .read-rule .ensures .1 .0 .line)
+add-t30 : tie.Need-add-t30 Inv-loop μ-loop
+add-t30 c = omega (arith, c .before .before .before .before .before .before .loop .inv .0 .short, c .before .before .before .read-rule .ensures .1 .0 .line)
 
 returns-3 : tie.Need-returns-3 Inv-loop μ-loop
 returns-3 c = load-stop (c .before .before .before .before .before .before .loop .inv .0) (c .before .before .before .before .before .loop-test .taken) (c .before .before .before .read-rule .ensures .0) (c .before .if3 .taken)
@@ -74,29 +68,32 @@ pattern-has c = pattern-part _ _ _ (c .before .before .read-rule .ensures .0) (c
 array-share-prefix-pattern : tie.Need-array-share-prefix-pattern Inv-loop μ-loop
 array-share-prefix-pattern c = pattern-has (c .before) .1
 
-slice-aggregate-add-rule : tie.Need-slice-aggregate-add-rule Inv-loop μ-loop
-slice-aggregate-add-rule c = sym (length-take-le _ _ (pattern-has (c .before .before) .1))
+slice-aggregate-plan-rule : tie.Need-slice-aggregate-plan-rule Inv-loop μ-loop
+slice-aggregate-plan-rule c = sym (length-take-le _ _ (pattern-has (c .before .before) .1))
 
-add-rule-requires : tie.Need-add-rule-requires Inv-loop μ-loop
-add-rule-requires c κs = search needs
-
-number-of-requires : tie.Need-number-of-requires Inv-loop μ-loop
-number-of-requires c κs = search needs
+plan-rule-requires : tie.Need-plan-rule-requires Inv-loop μ-loop
+plan-rule-requires c κs = search needs
 
 add-line : tie.Need-add-line Inv-loop μ-loop
-add-line c = omega (arith, c .before .before .before .before .before .before .before .before .before .before .loop .inv .0 .short)
+add-line c = omega (arith, c .before .before .before .before .before .before .before .before .loop .inv .0 .short)
 
 sub-left : tie.Need-sub-left Inv-loop μ-loop
-sub-left c = omega (arith, c .before .before .before .before .before .before .before .before .before .loop-test .taken)
+sub-left c = omega (arith, c .before .before .before .before .before .before .before .loop-test .taken)
 
 returns-4 : tie.Need-returns-4 Inv-loop μ-loop
-returns-4 c = load-refused (c .before .before .before .before .before .before .before .before .before .before .before .loop .inv .0) (c .before .before .before .before .before .before .before .before .before .before .loop-test .taken) (c .before .before .before .before .before .before .before .before .read-rule .ensures .0) (c .before .before .before .before .before .before .if3 .left) (pattern-has (c .before .before .before .before .before .before) .0) (c .before .before .before .add-rule .ensures) (c .before .before .number-of .ensures) (c .if4 .taken)
+returns-4 c = load-refused (c .before .before .before .before .before .before .before .before .before .before .loop .inv .0) (c .before .before .before .before .before .before .before .before .before .loop-test .taken) (c .before .before .before .before .before .before .before .read-rule .ensures .0) (c .before .before .before .before .before .if3 .left) (pattern-has (c .before .before .before .before .before) .0) (c .before .before .plan-rule .ensures) (c .if4 .taken)
+
+mul-rules : tie.Need-mul-rules Inv-loop μ-loop
+mul-rules c = let h : c .before .before .before .plan-rule .result .at < 32 = plan-place _ _ _ _ _ _ (c .before .before .before .plan-rule .ensures) (c .before .if4 .left) in omega (arith, h)
+
+array-set-from-rules : tie.Need-array-set-from-rules Inv-loop μ-loop
+array-set-from-rules c = plan-place _ _ _ _ _ _ (c .before .before .before .plan-rule .ensures) (c .before .if4 .left)
 
 loop-less : tie.Need-loop-less Inv-loop μ-loop
 loop-less c = omega (arith, c .before .before .before .before .before .before .before .before .before .before .loop-test .taken)
 
 loop-again : tie.Need-loop-again Inv-loop μ-loop
-loop-again c = (load-turn (c .before .before .before .before .before .before .before .before .before .before .before .loop .inv .0) (c .before .before .before .before .before .before .before .before .before .before .loop-test .taken) (c .before .before .before .before .before .before .before .before .read-rule .ensures .0) (c .before .before .before .before .before .before .if3 .left) (pattern-has (c .before .before .before .before .before .before) .0) (c .before .before .before .add-rule .ensures) (c .before .before .number-of .ensures) (c .if4 .left), pattern-has (c .before .before .before .before .before .before) .2)
+loop-again c = (load-turn (c .before .before .before .before .before .before .before .before .before .before .before .loop .inv .0) (c .before .before .before .before .before .before .before .before .before .before .loop-test .taken) (c .before .before .before .before .before .before .before .before .read-rule .ensures .0) (c .before .before .before .before .before .before .if3 .left) (pattern-has (c .before .before .before .before .before .before) .0) (c .before .before .before .plan-rule .ensures) (c .before .if4 .left), pattern-has (c .before .before .before .before .before .before) .2)
 
 returns-5 : tie.Need-returns-5 Inv-loop μ-loop
 returns-5 c = load-end (c .before .loop .inv .0) (omega (arith, c .loop-test .left))
@@ -107,28 +104,28 @@ load-spec =
     (tie.spec
     Inv-loop
     μ-loop
-    new-requires
+    free-rules-requires
     returns
     read-opening-requires
-    started-requires
-    cast-t20
-    add-t21
+    cast-t22
+    add-t23
     returns-2
     buffer-128-requires
     loop-holds
     read-rule-requires
-    add-t25
-    cast-t26
-    add-t27
+    add-t28
+    cast-t29
+    add-t30
     returns-3
     sub-n
     array-share-prefix-pattern
-    slice-aggregate-add-rule
-    add-rule-requires
-    number-of-requires
+    slice-aggregate-plan-rule
+    plan-rule-requires
     add-line
     sub-left
     returns-4
+    mul-rules
+    array-set-from-rules
     loop-less
     loop-again
     returns-5)

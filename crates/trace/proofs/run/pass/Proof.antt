@@ -25,14 +25,17 @@ abbrev μ-loop : tie.MeasureT-loop
 load-requires : tie.Need-load-requires Inv-loop μ-loop
 load-requires c κs = search needs
 
+started-requires : tie.Need-started-requires Inv-loop μ-loop
+started-requires c κs = search needs
+
 pass-closing-requires : tie.Need-pass-closing-requires Inv-loop μ-loop
-pass-closing-requires c κs = (omega arith, λ w. omega (arith, c .before .before .before .before .before .before .before .pre w, ap length (unloaded-text _ (c .before .before .before .before .load .ensures) (c .before .if1 .taken))))
+pass-closing-requires c κs = (omega arith, λ w. omega (arith, c .before .before .before .before .before .before .before .before .pre w, ap length (unloaded-text _ (c .before .before .before .before .before .load .ensures) (c .before .before .before .started .ensures) (c .before .if1 .taken))))
 
 same-length : tie.Need-same-length Inv-loop μ-loop
 same-length c = c .before .before .pass-closing .kept .0
 
 returns : tie.Need-returns Inv-loop μ-loop
-returns c = (unloaded-end _ (c .before .before .before .before .before .before .before .load .ensures) (c .before .before .before .before .if1 .taken) (c .before .before .pass-closing .ensures .0), rw (unloaded-text _ (c .before .before .before .before .before .before .before .load .ensures) (c .before .before .before .before .if1 .taken)) (c .before .before .pass-closing .ensures .1))
+returns c = (unloaded-end _ (c .before .before .before .before .before .before .before .before .load .ensures) (c .before .before .before .before .before .before .started .ensures) (c .before .before .before .before .if1 .taken) (c .before .before .pass-closing .ensures .0), rw (unloaded-text _ (c .before .before .before .before .before .before .before .before .load .ensures) (c .before .before .before .before .before .before .started .ensures) (c .before .before .before .before .if1 .taken)) (c .before .before .pass-closing .ensures .1))
 
 buffer-128-requires : tie.Need-buffer-128-requires Inv-loop μ-loop
 buffer-128-requires c κs = search needs
@@ -41,7 +44,7 @@ buffer-256-requires : tie.Need-buffer-256-requires Inv-loop μ-loop
 buffer-256-requires c κs = search needs
 
 loop-holds : tie.Need-loop-holds Inv-loop μ-loop
-loop-holds c = (going-start _ _ _ (c .before .before .before .before .before .load .ensures) (c .before .before .if1 .left), c .before .buffer-128 .ensures, c .buffer-256 .ensures)
+loop-holds c = (going-start _ (c .before .before .before .before .before .before .load .ensures) (c .before .before .before .before .started .ensures) _ _ (c .before .before .if1 .left), c .before .buffer-128 .ensures, c .buffer-256 .ensures)
 
 read-message-requires : tie.Need-read-message-requires Inv-loop μ-loop
 read-message-requires c κs = search needs
@@ -56,13 +59,13 @@ add-pass-closing-2 : tie.Need-add-pass-closing-2 Inv-loop μ-loop
 add-pass-closing-2 c = omega (arith, c .before .before .before .before .before .before .before .before .loop .inv .0 .lines, c .before .before .before .before .before .before .before .before .loop .inv .0 .short, c .before .before .before .before .before .before .before .loop-test .taken, c .before .before .before .before .read-message .ensures .1 .0 .line)
 
 pass-closing-requires-2 : tie.Need-pass-closing-requires-2 Inv-loop μ-loop
-pass-closing-requires-2 c κs = (going-small (c .before .before .before .before .before .before .before .before .loop .inv .0), close-room (c .before .before .before .before .before .before .before .before .loop .inv .0) (c .before .before .before .before .before .before .before .before .before .before .before .before .before .before .before .before .before .pre) (left-stop _ (c .before .before .before .before .before .before .before .before .loop .line) (c .before .before .before .before .before .before .before .loop-test .taken) (c .before .before .before .before .read-message .ensures .0) (c .before .before .if2 .taken)))
+pass-closing-requires-2 c κs = (going-small (c .before .before .before .before .before .before .before .before .loop .inv .0), close-room (c .before .before .before .before .before .before .before .before .loop .inv .0) (c .before .before .before .before .before .before .before .before .before .before .before .before .before .before .before .before .before .before .pre) (left-stop _ (c .before .before .before .before .before .before .before .before .loop .line) (c .before .before .before .before .before .before .before .loop-test .taken) (c .before .before .before .before .read-message .ensures .0) (c .before .before .if2 .taken)))
 
 same-length-2 : tie.Need-same-length-2 Inv-loop μ-loop
 same-length-2 c = c .before .before .pass-closing2 .kept .0 ∙ c .before .before .before .before .before .before .before .before .before .before .before .loop .inv .0 .long
 
 returns-2 : tie.Need-returns-2 Inv-loop μ-loop
-returns-2 c = (close-end (c .before .before .before .before .before .before .before .before .before .before .before .loop .inv .0) (c .before .before .before .before .before .before .before .before .before .before .before .before .before .before .before .before .before .before .before .before .pre) (left-stop _ (c .before .before .before .before .before .before .before .before .before .before .before .loop .line) (c .before .before .before .before .before .before .before .before .before .before .loop-test .taken) (c .before .before .before .before .before .before .before .read-message .ensures .0) (c .before .before .before .before .before .if2 .taken)) (c .before .before .pass-closing2 .ensures .0), close-bytes (c .before .before .before .before .before .before .before .before .before .before .before .loop .inv .0) (c .before .before .before .before .before .before .before .before .before .before .before .before .before .before .before .before .before .before .before .before .pre) (left-stop _ (c .before .before .before .before .before .before .before .before .before .before .before .loop .line) (c .before .before .before .before .before .before .before .before .before .before .loop-test .taken) (c .before .before .before .before .before .before .before .read-message .ensures .0) (c .before .before .before .before .before .if2 .taken)) (c .before .before .pass-closing2 .ensures .1))
+returns-2 c = (close-end (c .before .before .before .before .before .before .before .before .before .before .before .loop .inv .0) (c .before .before .before .before .before .before .before .before .before .before .before .before .before .before .before .before .before .before .before .before .before .pre) (left-stop _ (c .before .before .before .before .before .before .before .before .before .before .before .loop .line) (c .before .before .before .before .before .before .before .before .before .before .loop-test .taken) (c .before .before .before .before .before .before .before .read-message .ensures .0) (c .before .before .before .before .before .if2 .taken)) (c .before .before .pass-closing2 .ensures .0), close-bytes (c .before .before .before .before .before .before .before .before .before .before .before .loop .inv .0) (c .before .before .before .before .before .before .before .before .before .before .before .before .before .before .before .before .before .before .before .before .before .pre) (left-stop _ (c .before .before .before .before .before .before .before .before .before .before .before .loop .line) (c .before .before .before .before .before .before .before .before .before .before .loop-test .taken) (c .before .before .before .before .before .before .before .read-message .ensures .0) (c .before .before .before .before .before .if2 .taken)) (c .before .before .pass-closing2 .ensures .1))
 
 cast-topic-len : tie.Need-cast-topic-len Inv-loop μ-loop
 cast-topic-len c = search needs
@@ -71,10 +74,10 @@ cast-payload-len : tie.Need-cast-payload-len Inv-loop μ-loop
 cast-payload-len c = search needs
 
 -- the message's topic and payload are the first bytes of their buffers
-topic-has : (c : tie.Else2 Inv-loop μ-loop) → (take (c .before .before .read-message .result .msg .«topic_len») (c .before .before .read-message .last .1 .1 .0) ≡ topicIn (c .before .before .before .before .before .before .before .before .before .before .before .before .before .before .before .args .text .now) (c .before .before .read-message .result)) × (c .before .before .read-message .result .msg .«topic_len» ≤ length (c .before .before .read-message .last .1 .1 .0)) × (length (c .before .before .read-message .last .1 .1 .0) ≡ 128)
+topic-has : (c : tie.Else2 Inv-loop μ-loop) → (take (c .before .before .read-message .result .msg .«topic_len») (c .before .before .read-message .last .1 .1 .0) ≡ topicIn (c .before .before .before .before .before .before .before .before .before .before .before .before .before .before .before .before .args .text .now) (c .before .before .read-message .result)) × (c .before .before .read-message .result .msg .«topic_len» ≤ length (c .before .before .read-message .last .1 .1 .0)) × (length (c .before .before .read-message .last .1 .1 .0) ≡ 128)
 topic-has c = topic-part _ _ _ (c .before .before .read-message .ensures .0) (c .if2 .left) (c .before .before .before .before .before .before .loop .inv .1) (c .before .before .read-message .ensures .1 .1 .0)
 
-payload-has : (c : tie.Else2 Inv-loop μ-loop) → (take (c .before .before .read-message .result .msg .«payload_inspectable_len») (c .before .before .read-message .last .1 .1 .1 .0) ≡ payloadIn (c .before .before .before .before .before .before .before .before .before .before .before .before .before .before .before .args .text .now) (c .before .before .read-message .result)) × (c .before .before .read-message .result .msg .«payload_inspectable_len» ≤ length (c .before .before .read-message .last .1 .1 .1 .0)) × (length (c .before .before .read-message .last .1 .1 .1 .0) ≡ 256)
+payload-has : (c : tie.Else2 Inv-loop μ-loop) → (take (c .before .before .read-message .result .msg .«payload_inspectable_len») (c .before .before .read-message .last .1 .1 .1 .0) ≡ payloadIn (c .before .before .before .before .before .before .before .before .before .before .before .before .before .before .before .before .args .text .now) (c .before .before .read-message .result)) × (c .before .before .read-message .result .msg .«payload_inspectable_len» ≤ length (c .before .before .read-message .last .1 .1 .1 .0)) × (length (c .before .before .read-message .last .1 .1 .1 .0) ≡ 256)
 payload-has c = payload-part _ _ _ (c .before .before .read-message .ensures .0) (c .if2 .left) (c .before .before .before .before .before .before .loop .inv .2) (c .before .before .read-message .ensures .1 .1 .1)
 
 array-share-prefix-topic : tie.Need-array-share-prefix-topic Inv-loop μ-loop
@@ -114,7 +117,7 @@ element-set-from-tracker : tie.Need-element-set-from-tracker Inv-loop μ-loop
 element-set-from-tracker c = search needs
 
 -- its plan is that of the message sent
-plan-is : (c : tie.After-plan-for Inv-loop μ-loop) → c .plan-for .result ≡ planned (c .before .before .before .before .before .before .before .before .before .before .before .before .loop .m) (sentAt (c .before .before .before .before .before .before .before .before .before .before .before .before .before .before .before .before .before .before .before .before .before .args .text .now) (c .before .before .before .before .before .before .before .before .before .before .before .before .loop .at))
+plan-is : (c : tie.After-plan-for Inv-loop μ-loop) → c .plan-for .result ≡ planned (c .before .before .before .before .before .before .before .before .before .before .before .before .loop .m) (sentAt (c .before .before .before .before .before .before .before .before .before .before .before .before .before .before .before .before .before .before .before .before .before .before .args .text .now) (c .before .before .before .before .before .before .before .before .before .before .before .before .loop .at))
 plan-is c = plan-sent _ _ _ (c .before .before .before .before .before .before .before .before .read-message .ensures .0) (topic-has (c .before .before .before .before .before .before) .0) (payload-has (c .before .before .before .before .before .before) .0) (c .plan-for .ensures)
 
 -- the state after each store, where the ways from its test meet
@@ -146,7 +149,7 @@ tracker-is c =
     (c .if5 .came)
 
 pass-record-requires : tie.Need-pass-record-requires Inv-loop μ-loop
-pass-record-requires c κs = (going-small (c .before .before .before .before .before .before .before .before .before .before .before .before .before .before .before .before .before .before .before .before .before .before .loop .inv .0), turn-room (c .before .before .before .before .before .before .before .before .before .before .before .before .before .before .before .before .before .before .before .before .before .before .loop .inv .0) (c .before .before .before .before .before .before .before .before .before .before .before .before .before .before .before .before .before .before .before .before .before .before .before .before .before .before .before .before .before .before .before .pre) (c .before .before .before .before .before .before .before .before .before .before .before .before .before .before .before .before .before .before .before .before .before .loop-test .taken) (c .before .before .before .before .before .before .before .before .before .before .before .before .before .before .before .before .before .before .read-message .ensures .0) (c .before .before .before .before .before .before .before .before .before .before .before .before .before .before .before .before .if2 .left) (plan-is (c .before .before .before .before .before .before .before .before .before .before)))
+pass-record-requires c κs = (going-small (c .before .before .before .before .before .before .before .before .before .before .before .before .before .before .before .before .before .before .before .before .before .before .loop .inv .0), turn-room (c .before .before .before .before .before .before .before .before .before .before .before .before .before .before .before .before .before .before .before .before .before .before .loop .inv .0) (c .before .before .before .before .before .before .before .before .before .before .before .before .before .before .before .before .before .before .before .before .before .before .before .before .before .before .before .before .before .before .before .before .pre) (c .before .before .before .before .before .before .before .before .before .before .before .before .before .before .before .before .before .before .before .before .before .loop-test .taken) (c .before .before .before .before .before .before .before .before .before .before .before .before .before .before .before .before .before .before .read-message .ensures .0) (c .before .before .before .before .before .before .before .before .before .before .before .before .before .before .before .before .if2 .left) (plan-is (c .before .before .before .before .before .before .before .before .before .before)))
 
 add-line : tie.Need-add-line Inv-loop μ-loop
 add-line c = omega (arith, c .before .before .before .before .before .before .before .before .before .before .before .before .before .before .before .before .before .before .before .before .before .before .before .before .before .loop .inv .0 .lines, c .before .before .before .before .before .before .before .before .before .before .before .before .before .before .before .before .before .before .before .before .before .before .before .before .before .loop .inv .0 .short, c .before .before .before .before .before .before .before .before .before .before .before .before .before .before .before .before .before .before .before .before .before .before .before .before .loop-test .taken)
@@ -155,19 +158,19 @@ add-n : tie.Need-add-n Inv-loop μ-loop
 add-n c = omega (arith, c .before .before .before .before .before .before .before .before .before .before .before .before .before .before .before .before .before .before .before .before .before .before .before .before .before .loop .inv .0 .ordinal, c .before .before .before .before .before .before .before .before .before .before .before .before .before .before .before .before .before .before .before .before .before .before .before .before .before .loop .inv .0 .short, c .before .before .before .before .before .before .before .before .before .before .before .before .before .before .before .before .before .before .before .before .before .before .before .before .loop-test .taken)
 
 loop-less : tie.Need-loop-less Inv-loop μ-loop
-loop-less c = omega (arith, c .before .before .before .before .before .before .before .before .before .before .before .before .before .before .before .before .before .before .before .before .before .before .before .before .loop-test .taken, read-further (c .before .before .before .before .before .before .before .before .before .before .before .before .before .before .before .before .before .before .before .before .before .before .before .before .before .before .before .before .before .before .before .before .before .before .args .text .now) (c .before .before .before .before .before .before .before .before .before .before .before .before .before .before .before .before .before .before .before .before .before .before .before .before .before .loop .at) (c .before .before .before .before .before .before .before .before .before .before .before .before .before .before .before .before .before .before .before .before .before .read-message .ensures .0) (c .before .before .before .before .before .before .before .before .before .before .before .before .before .before .before .before .before .before .before .if2 .left))
+loop-less c = omega (arith, c .before .before .before .before .before .before .before .before .before .before .before .before .before .before .before .before .before .before .before .before .before .before .before .before .loop-test .taken, read-further (c .before .before .before .before .before .before .before .before .before .before .before .before .before .before .before .before .before .before .before .before .before .before .before .before .before .before .before .before .before .before .before .before .before .before .before .args .text .now) (c .before .before .before .before .before .before .before .before .before .before .before .before .before .before .before .before .before .before .before .before .before .before .before .before .before .loop .at) (c .before .before .before .before .before .before .before .before .before .before .before .before .before .before .before .before .before .before .before .before .before .read-message .ensures .0) (c .before .before .before .before .before .before .before .before .before .before .before .before .before .before .before .before .before .before .before .if2 .left))
 
 loop-again : tie.Need-loop-again Inv-loop μ-loop
-loop-again c = (going-turn (c .before .before .before .before .before .before .before .before .before .before .before .before .before .before .before .before .before .before .before .before .before .before .before .before .before .loop .inv .0) (c .before .before .before .before .before .before .before .before .before .before .before .before .before .before .before .before .before .before .before .before .before .before .before .before .before .before .before .before .before .before .before .before .before .before .pre) (c .before .before .before .before .before .before .before .before .before .before .before .before .before .before .before .before .before .before .before .before .before .before .before .before .loop-test .taken) (c .before .before .before .before .before .before .before .before .before .before .before .before .before .before .before .before .before .before .before .before .before .read-message .ensures .0) (c .before .before .before .before .before .before .before .before .before .before .before .before .before .before .before .before .before .before .before .if2 .left) (plan-is (c .before .before .before .before .before .before .before .before .before .before .before .before .before)) (stored-all _ _ (client-is (c .before .before .before .before .before .before .before .before .before .before)) (bucket-is (c .before .before .before .before .before .before .before .before)) (tracker-is (c .before .before .before .before .before .before)) (c .before .before .before .before .before .before .before .before .before .before .before .before .count-on .ensures)) (c .before .before .pass-record .ensures .0) (c .before .before .pass-record .ensures .1), topic-has (c .before .before .before .before .before .before .before .before .before .before .before .before .before .before .before .before .before .before .before) .2, payload-has (c .before .before .before .before .before .before .before .before .before .before .before .before .before .before .before .before .before .before .before) .2)
+loop-again c = (going-turn (c .before .before .before .before .before .before .before .before .before .before .before .before .before .before .before .before .before .before .before .before .before .before .before .before .before .loop .inv .0) (c .before .before .before .before .before .before .before .before .before .before .before .before .before .before .before .before .before .before .before .before .before .before .before .before .before .before .before .before .before .before .before .before .before .before .before .pre) (c .before .before .before .before .before .before .before .before .before .before .before .before .before .before .before .before .before .before .before .before .before .before .before .before .loop-test .taken) (c .before .before .before .before .before .before .before .before .before .before .before .before .before .before .before .before .before .before .before .before .before .read-message .ensures .0) (c .before .before .before .before .before .before .before .before .before .before .before .before .before .before .before .before .before .before .before .if2 .left) (plan-is (c .before .before .before .before .before .before .before .before .before .before .before .before .before)) (stored-all _ _ (client-is (c .before .before .before .before .before .before .before .before .before .before)) (bucket-is (c .before .before .before .before .before .before .before .before)) (tracker-is (c .before .before .before .before .before .before)) (c .before .before .before .before .before .before .before .before .before .before .before .before .count-on .ensures)) (c .before .before .pass-record .ensures .0) (c .before .before .pass-record .ensures .1), topic-has (c .before .before .before .before .before .before .before .before .before .before .before .before .before .before .before .before .before .before .before) .2, payload-has (c .before .before .before .before .before .before .before .before .before .before .before .before .before .before .before .before .before .before .before) .2)
 
 pass-closing-requires-3 : tie.Need-pass-closing-requires-3 Inv-loop μ-loop
-pass-closing-requires-3 c κs = (going-small (c .before .before .loop .inv .0), close-room (c .before .before .loop .inv .0) (c .before .before .before .before .before .before .before .before .before .before .before .pre) (left-end (c .before .before .before .before .before .before .before .before .before .before .before .args .text .now) (c .before .before .loop .line) (c .before .loop-test .left)))
+pass-closing-requires-3 c κs = (going-small (c .before .before .loop .inv .0), close-room (c .before .before .loop .inv .0) (c .before .before .before .before .before .before .before .before .before .before .before .before .pre) (left-end (c .before .before .before .before .before .before .before .before .before .before .before .before .args .text .now) (c .before .before .loop .line) (c .before .loop-test .left)))
 
 same-length-3 : tie.Need-same-length-3 Inv-loop μ-loop
 same-length-3 c = c .before .before .pass-closing3 .kept .0 ∙ c .before .before .before .before .before .loop .inv .0 .long
 
 returns-3 : tie.Need-returns-3 Inv-loop μ-loop
-returns-3 c = (close-end (c .before .before .before .before .before .loop .inv .0) (c .before .before .before .before .before .before .before .before .before .before .before .before .before .before .pre) (left-end (c .before .before .before .before .before .before .before .before .before .before .before .before .before .before .args .text .now) (c .before .before .before .before .before .loop .line) (c .before .before .before .before .loop-test .left)) (c .before .before .pass-closing3 .ensures .0), close-bytes (c .before .before .before .before .before .loop .inv .0) (c .before .before .before .before .before .before .before .before .before .before .before .before .before .before .pre) (left-end (c .before .before .before .before .before .before .before .before .before .before .before .before .before .before .args .text .now) (c .before .before .before .before .before .loop .line) (c .before .before .before .before .loop-test .left)) (c .before .before .pass-closing3 .ensures .1))
+returns-3 c = (close-end (c .before .before .before .before .before .loop .inv .0) (c .before .before .before .before .before .before .before .before .before .before .before .before .before .before .before .pre) (left-end (c .before .before .before .before .before .before .before .before .before .before .before .before .before .before .before .args .text .now) (c .before .before .before .before .before .loop .line) (c .before .before .before .before .loop-test .left)) (c .before .before .pass-closing3 .ensures .0), close-bytes (c .before .before .before .before .before .loop .inv .0) (c .before .before .before .before .before .before .before .before .before .before .before .before .before .before .before .pre) (left-end (c .before .before .before .before .before .before .before .before .before .before .before .before .before .before .before .args .text .now) (c .before .before .before .before .before .loop .line) (c .before .before .before .before .loop-test .left)) (c .before .before .pass-closing3 .ensures .1))
 
 pub pass-spec : {M : Type 1} → statement M
 pass-spec =
@@ -176,6 +179,7 @@ pass-spec =
     Inv-loop
     μ-loop
     load-requires
+    started-requires
     pass-closing-requires
     same-length
     returns
