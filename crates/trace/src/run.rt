@@ -11,7 +11,12 @@ use monitor::alerts::MqttInspectResult;
 use monitor::alerts::count_on;
 use monitor::calls::new;
 use monitor::calls::new_deny_default;
-use monitor::plan::plan_for;
+use monitor::gate::gate_for;
+use monitor::plan::fed_for;
+use monitor::plan::id_for;
+use monitor::plan::plan_from;
+use monitor::plan::seen_for;
+use monitor::plan::spent_for;
 use monitor::rule_calls::plan_rule;
 use monitor::state::MqttMonitor;
 use monitor::state::free_rules;
@@ -197,7 +202,8 @@ fn pass_closing(
     }
 }
 
-// One pass over a trace, which writes its text from the buffer's beginning on, or only counts it. The loop owns the monitor: each message is planned, its records are stored, its lines go out.
+// One pass over a trace, which writes its text from the buffer's beginning on, or only counts it. The loop owns the monitor: each table is asked by itself, as `plan_for` does, so that
+// none is copied but for its own search; what was decided is stored, and the message's lines go out.
 fn pass(text: &[u8], out: &mut [u8], write: bool) -> TraceEnd
     requires { ⌜ (write ≡ true → length (traceText (now text)) ≤ length (now out)) ⌝ }
     ensures end { λ r. ⌜ r ≡ wholeEnd (now (text .entry)) ⌝ }
@@ -242,7 +248,33 @@ fn pass(text: &[u8], out: &mut [u8], write: bool) -> TraceEnd
         let msg = group.msg;
         let topic_len = msg.topic_len as usize;
         let payload_len = msg.payload_inspectable_len as usize;
-        let plan = plan_for(m, msg, &topic[..topic_len], &payload[..payload_len]);
+        let name = &topic[..topic_len];
+        let rules = m.rules;
+        let default_action = m.default_action;
+        let gate = gate_for(rules, m.rule_count, default_action, msg, name);
+        let clients = m.client_hashes;
+        let seen = seen_for(
+            clients,
+            m.connect_storm_threshold,
+            m.connect_storm_window_us,
+            msg,
+            name,
+        );
+        let id = id_for(gate, name);
+        let buckets = m.rate_buckets;
+        let spent = spent_for(buckets, gate, id, msg.timestamp_us);
+        let trackers = m.ewma_trackers;
+        let fed = fed_for(trackers, gate, id, msg);
+        let plan = plan_from(
+            gate,
+            seen,
+            spent,
+            fed,
+            msg,
+            &payload[..payload_len],
+            m.next_alert_id,
+            m.total_alerts,
+        );
         let inspected = count_on(m.total_inspected);
         let seen = plan.seen;
         let seen_at = seen.at;

@@ -8,6 +8,8 @@ use lib.ListN.{length, take}
 use lib.Seq.{length-take-le}
 use borrow.Author.Needs.{needs}
 use Rattle.monitor.specs.Inspect.{storedAt}
+use Rattle.topics.specs.Matching.{portMatches}
+use Rattle.monitor.proofs.PlanLaws.{composed}
 use Rattle.monitor.proofs.ApplyLaws.{stored-yes, stored-no, withClients, withBuckets, withTrackers, stored-all}
 use Rattle.trace.specs.Groups.{topicIn, payloadIn}
 use Rattle.trace.specs.Trace.{planned}
@@ -83,17 +85,32 @@ payload-has c = payload-part _ _ _ (c .before .before .read-message .ensures .0)
 array-share-prefix-topic : tie.Need-array-share-prefix-topic Inv-loop μ-loop
 array-share-prefix-topic c = topic-has (c .before .before .before) .1
 
-slice-aggregate-plan-for : tie.Need-slice-aggregate-plan-for Inv-loop μ-loop
-slice-aggregate-plan-for c = sym (length-take-le _ _ (topic-has (c .before .before .before .before) .1))
+slice-aggregate-name : tie.Need-slice-aggregate-name Inv-loop μ-loop
+slice-aggregate-name c = sym (length-take-le _ _ (topic-has (c .before .before .before .before) .1))
+
+gate-for-requires : tie.Need-gate-for-requires Inv-loop μ-loop
+gate-for-requires c κs = search needs
+
+seen-for-requires : tie.Need-seen-for-requires Inv-loop μ-loop
+seen-for-requires c κs = search needs
+
+id-for-requires : tie.Need-id-for-requires Inv-loop μ-loop
+id-for-requires c κs = search needs
+
+spent-for-requires : tie.Need-spent-for-requires Inv-loop μ-loop
+spent-for-requires c κs = search needs
+
+fed-for-requires : tie.Need-fed-for-requires Inv-loop μ-loop
+fed-for-requires c κs = search needs
 
 array-share-prefix-payload : tie.Need-array-share-prefix-payload Inv-loop μ-loop
-array-share-prefix-payload c = payload-has (c .before .before .before .before) .1
+array-share-prefix-payload c = payload-has (c .before .before .before .before .before .before .before .before .before .before .before .before .before) .1
 
-slice-aggregate-plan-for-2 : tie.Need-slice-aggregate-plan-for-2 Inv-loop μ-loop
-slice-aggregate-plan-for-2 c = sym (length-take-le _ _ (payload-has (c .before .before .before .before .before) .1))
+slice-aggregate-plan-from : tie.Need-slice-aggregate-plan-from Inv-loop μ-loop
+slice-aggregate-plan-from c = sym (length-take-le _ _ (payload-has (c .before .before .before .before .before .before .before .before .before .before .before .before .before .before) .1))
 
-plan-for-requires : tie.Need-plan-for-requires Inv-loop μ-loop
-plan-for-requires c κs = search needs
+plan-from-requires : tie.Need-plan-from-requires Inv-loop μ-loop
+plan-from-requires c κs = search needs
 
 count-on-requires : tie.Need-count-on-requires Inv-loop μ-loop
 count-on-requires c κs = search needs
@@ -117,51 +134,51 @@ element-set-from-tracker : tie.Need-element-set-from-tracker Inv-loop μ-loop
 element-set-from-tracker c = search needs
 
 -- its plan is that of the message sent
-plan-is : (c : tie.After-plan-for Inv-loop μ-loop) → c .plan-for .result ≡ planned (c .before .before .before .before .before .before .before .before .before .before .before .before .loop .m) (sentAt (c .before .before .before .before .before .before .before .before .before .before .before .before .before .before .before .before .before .before .before .before .before .before .args .text .now) (c .before .before .before .before .before .before .before .before .before .before .before .before .loop .at))
-plan-is c = plan-sent _ _ _ (c .before .before .before .before .before .before .before .before .read-message .ensures .0) (topic-has (c .before .before .before .before .before .before) .0) (payload-has (c .before .before .before .before .before .before) .0) (c .plan-for .ensures)
+plan-is : (c : tie.After-plan-from Inv-loop μ-loop) → c .plan-from .result ≡ planned (c .before .before .before .before .before .before .before .before .before .before .before .before .before .before .before .before .before .before .before .before .before .loop .m) (sentAt (c .before .before .before .before .before .before .before .before .before .before .before .before .before .before .before .before .before .before .before .before .before .before .before .before .before .before .before .before .before .before .before .args .text .now) (c .before .before .before .before .before .before .before .before .before .before .before .before .before .before .before .before .before .before .before .before .before .loop .at))
+plan-is c = plan-sent _ _ _ (c .before .before .before .before .before .before .before .before .before .before .before .before .before .before .before .before .before .read-message .ensures .0) (topic-has (c .before .before .before .before .before .before .before .before .before .before .before .before .before .before .before) .0) (payload-has (c .before .before .before .before .before .before .before .before .before .before .before .before .before .before .before) .0) (composed portMatches _ _ _ _ (c .before .before .before .before .before .before .before .before .before .gate-for .ensures) (c .before .before .before .before .before .before .before .seen-for .ensures) (c .before .before .before .before .before .before .id-for .ensures) (c .before .before .before .before .spent-for .ensures) (c .before .before .fed-for .ensures) (c .plan-from .ensures))
 
 -- the state after each store, where the ways from its test meet
-client-is : (c : tie.Joined3 Inv-loop μ-loop) → c .if3 .m ≡ withClients (c .before .before .before .before .before .before .before .before .before .before .before .before .before .before .before .loop .m) (storedAt 16 (c .before .before .before .before .before .before .before .before .before .before .before .before .before .before .before .loop .m .«client_hashes») (c .before .before .before .plan-for .result .seen .at) (c .before .before .before .plan-for .result .seen .entry))
+client-is : (c : tie.Joined3 Inv-loop μ-loop) → c .if3 .m ≡ withClients (c .before .before .before .before .before .before .before .before .before .before .before .before .before .before .before .before .before .before .before .before .before .before .before .before .loop .m) (storedAt 16 (c .before .before .before .before .before .before .before .before .before .before .before .before .before .before .before .before .before .before .before .before .before .before .before .before .loop .m .«client_hashes») (c .before .before .before .plan-from .result .seen .at) (c .before .before .before .plan-from .result .seen .entry))
 client-is c =
-    let m = c .before .before .before .before .before .before .before .before .before .before .before .before .before .before .before .loop .m in
-    let d = c .before .before .before .plan-for .result .seen in
+    let m = c .before .before .before .before .before .before .before .before .before .before .before .before .before .before .before .before .before .before .before .before .before .before .before .before .loop .m in
+    let d = c .before .before .before .plan-from .result .seen in
     ⊎-elim
     (λ w. stored-yes (withClients m) 16 (m .«client_hashes») (d .at) (d .entry) (w .0 .taken) (w .2))
     (λ w. stored-no (withClients m) 16 (m .«client_hashes») (d .at) (d .entry) (w .0 .left) (w .1))
     (c .if3 .came)
 
-bucket-is : (c : tie.Joined4 Inv-loop μ-loop) → c .if4 .m ≡ withBuckets (c .before .before .if3 .m) (storedAt 32 (c .before .before .if3 .m .«rate_buckets») (c .before .before .before .before .before .plan-for .result .spent .at) (c .before .before .before .before .before .plan-for .result .spent .bucket))
+bucket-is : (c : tie.Joined4 Inv-loop μ-loop) → c .if4 .m ≡ withBuckets (c .before .before .if3 .m) (storedAt 32 (c .before .before .if3 .m .«rate_buckets») (c .before .before .before .before .before .plan-from .result .spent .at) (c .before .before .before .before .before .plan-from .result .spent .bucket))
 bucket-is c =
     let m = c .before .before .if3 .m in
-    let d = c .before .before .before .before .before .plan-for .result .spent in
+    let d = c .before .before .before .before .before .plan-from .result .spent in
     ⊎-elim
     (λ w. stored-yes (withBuckets m) 32 (m .«rate_buckets») (d .at) (d .bucket) (w .0 .taken) (w .2))
     (λ w. stored-no (withBuckets m) 32 (m .«rate_buckets») (d .at) (d .bucket) (w .0 .left) (w .1))
     (c .if4 .came)
 
-tracker-is : (c : tie.Joined5 Inv-loop μ-loop) → c .if5 .m ≡ withTrackers (c .before .before .if4 .m) (storedAt 16 (c .before .before .if4 .m .«ewma_trackers») (c .before .before .before .before .before .before .before .plan-for .result .fed .at) (c .before .before .before .before .before .before .before .plan-for .result .fed .tracker))
+tracker-is : (c : tie.Joined5 Inv-loop μ-loop) → c .if5 .m ≡ withTrackers (c .before .before .if4 .m) (storedAt 16 (c .before .before .if4 .m .«ewma_trackers») (c .before .before .before .before .before .before .before .plan-from .result .fed .at) (c .before .before .before .before .before .before .before .plan-from .result .fed .tracker))
 tracker-is c =
     let m = c .before .before .if4 .m in
-    let d = c .before .before .before .before .before .before .before .plan-for .result .fed in
+    let d = c .before .before .before .before .before .before .before .plan-from .result .fed in
     ⊎-elim
     (λ w. stored-yes (withTrackers m) 16 (m .«ewma_trackers») (d .at) (d .tracker) (w .0 .taken) (w .2))
     (λ w. stored-no (withTrackers m) 16 (m .«ewma_trackers») (d .at) (d .tracker) (w .0 .left) (w .1))
     (c .if5 .came)
 
 pass-record-requires : tie.Need-pass-record-requires Inv-loop μ-loop
-pass-record-requires c κs = (going-small (c .before .before .before .before .before .before .before .before .before .before .before .before .before .before .before .before .before .before .before .before .before .before .loop .inv .0), turn-room (c .before .before .before .before .before .before .before .before .before .before .before .before .before .before .before .before .before .before .before .before .before .before .loop .inv .0) (c .before .before .before .before .before .before .before .before .before .before .before .before .before .before .before .before .before .before .before .before .before .before .before .before .before .before .before .before .before .before .before .before .pre) (c .before .before .before .before .before .before .before .before .before .before .before .before .before .before .before .before .before .before .before .before .before .loop-test .taken) (c .before .before .before .before .before .before .before .before .before .before .before .before .before .before .before .before .before .before .read-message .ensures .0) (c .before .before .before .before .before .before .before .before .before .before .before .before .before .before .before .before .if2 .left) (plan-is (c .before .before .before .before .before .before .before .before .before .before)))
+pass-record-requires c κs = (going-small (c .before .before .before .before .before .before .before .before .before .before .before .before .before .before .before .before .before .before .before .before .before .before .before .before .before .before .before .before .before .before .before .loop .inv .0), turn-room (c .before .before .before .before .before .before .before .before .before .before .before .before .before .before .before .before .before .before .before .before .before .before .before .before .before .before .before .before .before .before .before .loop .inv .0) (c .before .before .before .before .before .before .before .before .before .before .before .before .before .before .before .before .before .before .before .before .before .before .before .before .before .before .before .before .before .before .before .before .before .before .before .before .before .before .before .before .before .pre) (c .before .before .before .before .before .before .before .before .before .before .before .before .before .before .before .before .before .before .before .before .before .before .before .before .before .before .before .before .before .before .loop-test .taken) (c .before .before .before .before .before .before .before .before .before .before .before .before .before .before .before .before .before .before .before .before .before .before .before .before .before .before .before .read-message .ensures .0) (c .before .before .before .before .before .before .before .before .before .before .before .before .before .before .before .before .before .before .before .before .before .before .before .before .before .if2 .left) (plan-is (c .before .before .before .before .before .before .before .before .before .before)))
 
 add-line : tie.Need-add-line Inv-loop μ-loop
-add-line c = omega (arith, c .before .before .before .before .before .before .before .before .before .before .before .before .before .before .before .before .before .before .before .before .before .before .before .before .before .loop .inv .0 .lines, c .before .before .before .before .before .before .before .before .before .before .before .before .before .before .before .before .before .before .before .before .before .before .before .before .before .loop .inv .0 .short, c .before .before .before .before .before .before .before .before .before .before .before .before .before .before .before .before .before .before .before .before .before .before .before .before .loop-test .taken)
+add-line c = omega (arith, c .before .before .before .before .before .before .before .before .before .before .before .before .before .before .before .before .before .before .before .before .before .before .before .before .before .before .before .before .before .before .before .before .before .before .loop .inv .0 .lines, c .before .before .before .before .before .before .before .before .before .before .before .before .before .before .before .before .before .before .before .before .before .before .before .before .before .before .before .before .before .before .before .before .before .before .loop .inv .0 .short, c .before .before .before .before .before .before .before .before .before .before .before .before .before .before .before .before .before .before .before .before .before .before .before .before .before .before .before .before .before .before .before .before .before .loop-test .taken)
 
 add-n : tie.Need-add-n Inv-loop μ-loop
-add-n c = omega (arith, c .before .before .before .before .before .before .before .before .before .before .before .before .before .before .before .before .before .before .before .before .before .before .before .before .before .loop .inv .0 .ordinal, c .before .before .before .before .before .before .before .before .before .before .before .before .before .before .before .before .before .before .before .before .before .before .before .before .before .loop .inv .0 .short, c .before .before .before .before .before .before .before .before .before .before .before .before .before .before .before .before .before .before .before .before .before .before .before .before .loop-test .taken)
+add-n c = omega (arith, c .before .before .before .before .before .before .before .before .before .before .before .before .before .before .before .before .before .before .before .before .before .before .before .before .before .before .before .before .before .before .before .before .before .before .loop .inv .0 .ordinal, c .before .before .before .before .before .before .before .before .before .before .before .before .before .before .before .before .before .before .before .before .before .before .before .before .before .before .before .before .before .before .before .before .before .before .loop .inv .0 .short, c .before .before .before .before .before .before .before .before .before .before .before .before .before .before .before .before .before .before .before .before .before .before .before .before .before .before .before .before .before .before .before .before .before .loop-test .taken)
 
 loop-less : tie.Need-loop-less Inv-loop μ-loop
-loop-less c = omega (arith, c .before .before .before .before .before .before .before .before .before .before .before .before .before .before .before .before .before .before .before .before .before .before .before .before .loop-test .taken, read-further (c .before .before .before .before .before .before .before .before .before .before .before .before .before .before .before .before .before .before .before .before .before .before .before .before .before .before .before .before .before .before .before .before .before .before .before .args .text .now) (c .before .before .before .before .before .before .before .before .before .before .before .before .before .before .before .before .before .before .before .before .before .before .before .before .before .loop .at) (c .before .before .before .before .before .before .before .before .before .before .before .before .before .before .before .before .before .before .before .before .before .read-message .ensures .0) (c .before .before .before .before .before .before .before .before .before .before .before .before .before .before .before .before .before .before .before .if2 .left))
+loop-less c = omega (arith, c .before .before .before .before .before .before .before .before .before .before .before .before .before .before .before .before .before .before .before .before .before .before .before .before .before .before .before .before .before .before .before .before .before .loop-test .taken, read-further (c .before .before .before .before .before .before .before .before .before .before .before .before .before .before .before .before .before .before .before .before .before .before .before .before .before .before .before .before .before .before .before .before .before .before .before .before .before .before .before .before .before .before .before .before .args .text .now) (c .before .before .before .before .before .before .before .before .before .before .before .before .before .before .before .before .before .before .before .before .before .before .before .before .before .before .before .before .before .before .before .before .before .before .loop .at) (c .before .before .before .before .before .before .before .before .before .before .before .before .before .before .before .before .before .before .before .before .before .before .before .before .before .before .before .before .before .before .read-message .ensures .0) (c .before .before .before .before .before .before .before .before .before .before .before .before .before .before .before .before .before .before .before .before .before .before .before .before .before .before .before .before .if2 .left))
 
 loop-again : tie.Need-loop-again Inv-loop μ-loop
-loop-again c = (going-turn (c .before .before .before .before .before .before .before .before .before .before .before .before .before .before .before .before .before .before .before .before .before .before .before .before .before .loop .inv .0) (c .before .before .before .before .before .before .before .before .before .before .before .before .before .before .before .before .before .before .before .before .before .before .before .before .before .before .before .before .before .before .before .before .before .before .before .pre) (c .before .before .before .before .before .before .before .before .before .before .before .before .before .before .before .before .before .before .before .before .before .before .before .before .loop-test .taken) (c .before .before .before .before .before .before .before .before .before .before .before .before .before .before .before .before .before .before .before .before .before .read-message .ensures .0) (c .before .before .before .before .before .before .before .before .before .before .before .before .before .before .before .before .before .before .before .if2 .left) (plan-is (c .before .before .before .before .before .before .before .before .before .before .before .before .before)) (stored-all _ _ (client-is (c .before .before .before .before .before .before .before .before .before .before)) (bucket-is (c .before .before .before .before .before .before .before .before)) (tracker-is (c .before .before .before .before .before .before)) (c .before .before .before .before .before .before .before .before .before .before .before .before .count-on .ensures)) (c .before .before .pass-record .ensures .0) (c .before .before .pass-record .ensures .1), topic-has (c .before .before .before .before .before .before .before .before .before .before .before .before .before .before .before .before .before .before .before) .2, payload-has (c .before .before .before .before .before .before .before .before .before .before .before .before .before .before .before .before .before .before .before) .2)
+loop-again c = (going-turn (c .before .before .before .before .before .before .before .before .before .before .before .before .before .before .before .before .before .before .before .before .before .before .before .before .before .before .before .before .before .before .before .before .before .before .loop .inv .0) (c .before .before .before .before .before .before .before .before .before .before .before .before .before .before .before .before .before .before .before .before .before .before .before .before .before .before .before .before .before .before .before .before .before .before .before .before .before .before .before .before .before .before .before .before .pre) (c .before .before .before .before .before .before .before .before .before .before .before .before .before .before .before .before .before .before .before .before .before .before .before .before .before .before .before .before .before .before .before .before .before .loop-test .taken) (c .before .before .before .before .before .before .before .before .before .before .before .before .before .before .before .before .before .before .before .before .before .before .before .before .before .before .before .before .before .before .read-message .ensures .0) (c .before .before .before .before .before .before .before .before .before .before .before .before .before .before .before .before .before .before .before .before .before .before .before .before .before .before .before .before .if2 .left) (plan-is (c .before .before .before .before .before .before .before .before .before .before .before .before .before)) (stored-all _ _ (client-is (c .before .before .before .before .before .before .before .before .before .before)) (bucket-is (c .before .before .before .before .before .before .before .before)) (tracker-is (c .before .before .before .before .before .before)) (c .before .before .before .before .before .before .before .before .before .before .before .before .count-on .ensures)) (c .before .before .pass-record .ensures .0) (c .before .before .pass-record .ensures .1), topic-has (c .before .before .before .before .before .before .before .before .before .before .before .before .before .before .before .before .before .before .before .before .before .before .before .before .before .before .before .before) .2, payload-has (c .before .before .before .before .before .before .before .before .before .before .before .before .before .before .before .before .before .before .before .before .before .before .before .before .before .before .before .before) .2)
 
 pass-closing-requires-3 : tie.Need-pass-closing-requires-3 Inv-loop μ-loop
 pass-closing-requires-3 c κs = (going-small (c .before .before .loop .inv .0), close-room (c .before .before .loop .inv .0) (c .before .before .before .before .before .before .before .before .before .before .before .before .pre) (left-end (c .before .before .before .before .before .before .before .before .before .before .before .before .args .text .now) (c .before .before .loop .line) (c .before .loop-test .left)))
@@ -196,10 +213,15 @@ pass-spec =
     cast-topic-len
     cast-payload-len
     array-share-prefix-topic
-    slice-aggregate-plan-for
+    slice-aggregate-name
+    gate-for-requires
+    seen-for-requires
+    id-for-requires
+    spent-for-requires
+    fed-for-requires
     array-share-prefix-payload
-    slice-aggregate-plan-for-2
-    plan-for-requires
+    slice-aggregate-plan-from
+    plan-from-requires
     count-on-requires
     mul-entry
     element-set-from-entry
