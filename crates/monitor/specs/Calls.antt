@@ -97,10 +97,11 @@ withRule m plan = withRules m (set (m .rules) (plan .at) (plan .rule)) (plan .co
 abbrev pub shadowsIn : MqttMonitor → ℕ
 shadowsIn m = shadowCount (m .rules) (m .«rule_count»)
 
--- `add_rule`: 10, the plan's own number, else the rule is stored; it hands back the shadow count
+-- a plan carried out: 10, the plan's own number, else the rule is stored and the shadow count handed back
 abbrev pub addPlanned : MqttMonitor → RulePlan → Called
 addPlanned m plan = ended (tested m (plan .number)) m (shadowsIn (withRule m plan)) (withRule m plan)
 
+-- `add_rule`
 unfoldable pub addRule : MqttMonitor → List ℕ → TopicAction → QosPolicy → ℕ → Called
 addRule m p action policy rate = addPlanned m (rulePlan (m .rules) (m .«rule_count») p action policy rate)
 

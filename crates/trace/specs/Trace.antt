@@ -73,7 +73,7 @@ loadedFrom s o =
 unfoldable pub loaded : List ℕ → Loaded
 loaded s = cond (leb (length s) 65536) (loadedFrom s (openingOf s)) (notLoaded 27 0 0 (fresh Allow))
 
--- the part of the monitor that loading changes
+-- the monitor's default and rules, which say all of it: the rest is as in a fresh one (proofs/LoadLaws.antt, `loaded-monitor`)
 abbrev pub rulesOf : Loaded → LoadedRules
 rulesOf l =
     record {
