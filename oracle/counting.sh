@@ -1,9 +1,6 @@
 # counting.sh: what the parts of bin/measure share that count instructions: hosts over the Rust original and an archive, and tables of what callgrind counts in
 # them, both sides on the same input in the same run. bin/measure reads it, in the repository's folder, with $room a folder for the run.
 
-# Has the C library copy and fill by vectors always: it takes `rep` for more than some KiB, and callgrind counts each byte of that.
-export BY_VECTORS=glibc.cpu.x86_rep_movsb_threshold=1000000000:glibc.cpu.x86_rep_stosb_threshold=1000000000
-
 # The original, built once a run.
 original() {
     [ -e "$room/built" ] || oracle/build

@@ -1,6 +1,5 @@
 """Two programs on one trace (bin/measure program): `program.py TRACE SCRIPT OURS THEIRS` checks that they write the same bytes and prints the
 instructions, the time and the memory that each takes. SCRIPT is the command that people start OURS with."""
-import os
 import re
 import subprocess
 import sys
@@ -11,17 +10,16 @@ from pathlib import Path
 TURNS = 50
 
 
-def run(words, trace, **more):
+def run(words, trace):
     """What a command writes to standard output when it reads the trace."""
     with open(trace, "rb") as text:
-        return subprocess.run(words, stdin=text, stdout=subprocess.PIPE, stderr=subprocess.DEVNULL, check=True, **more).stdout
+        return subprocess.run(words, stdin=text, stdout=subprocess.PIPE, stderr=subprocess.DEVNULL, check=True).stdout
 
 
-def instructions(program, trace, words=(), tunables=""):
-    """Counted by callgrind: in the whole process, or where the words say; with the C library tuned."""
+def instructions(program, trace, *words):
+    """Counted by callgrind: in the whole process, or where the words say."""
     with tempfile.NamedTemporaryFile() as counts:
-        called = ["valgrind", "--tool=callgrind", f"--callgrind-out-file={counts.name}", *words, program]
-        run(called, trace, env=os.environ | {"GLIBC_TUNABLES": tunables})
+        run(["valgrind", "--tool=callgrind", f"--callgrind-out-file={counts.name}", *words, program], trace)
         return int(re.search(r"^totals: (\d+)", Path(counts.name).read_text(), re.M)[1])
 
 
@@ -53,11 +51,9 @@ def main(trace, script, ours, theirs):
     print("| What | Rattle | Rust | Ratio |\n|---|---|---|---|")
     inside = ["--collect-atstart=no", "--toggle-collect=main"]
     both = ours, theirs
-    vectors = os.environ["BY_VECTORS"]
     by_script, alone, rust = milliseconds([script, ours, theirs], trace)
     for what, one, other in (
-        ("instructions inside `main`", *(instructions(program, trace, inside) for program in both)),
-        ("the same, large copies by vectors", *(instructions(program, trace, inside, vectors) for program in both)),
+        ("instructions inside `main`", *(instructions(program, trace, *inside) for program in both)),
         ("instructions of the whole process", *(instructions(program, trace) for program in both)),
         (f"milliseconds, best of {TURNS}", alone, rust),
         ("the same by `bin/hubtrace`, which looks for changed sources first", by_script, rust),
