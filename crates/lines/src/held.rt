@@ -67,7 +67,7 @@ pub fn next_line<'a>(r: TraceReader<'a>) -> Span
 
 // The line at `at`, through a reader.
 pub fn span_from(text: &[u8], at: usize) -> Span
-    ensures { λ r. ⌜ r ≡ spanOf (now (text .entry)) at ⌝ }
+    ensures { λ s. ⌜ s ≡ spanOf (now (text .entry)) at ⌝ }
 {
     next_line(new(text, at))
 }

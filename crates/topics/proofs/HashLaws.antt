@@ -1,5 +1,5 @@
 -- What proofs here and in crates above need of the hashes: each fits 32 bits, and the payload hash has 32 bytes; what the hashes of an empty and of any
--- other text are; and a slice from a place on.
+-- other text are; and a slice from a place on. That the words of the payload hash are little-endian (document 01, "Hashes") is shown here too.
 -- Assumes nothing.
 use mathlib.Core.Path.{_≡_, refl}
 use mathlib.Core.Bool.{Bool, true, false, cond}
@@ -12,7 +12,7 @@ use lib.Pow.{pow-pos}
 use lib.ListN.{length, take, drop, replicate, length-drop}
 use lib.Seq.{take-all}
 use Rattle.topics.specs.Hashes.{fnvStep, fnv1a, djbStep, djb2, suffixHash, clientHashes}
-use Rattle.topics.specs.Payload.{streamsOf, wordsOf, payloadHash}
+use Rattle.topics.specs.Payload.{streamsOf, leBytes, wordsOf, payloadHash}
 use Rattle.topics.proofs.FoldLaws.{fold-keeps}
 
 -- each hash fits 32 bits
@@ -37,6 +37,10 @@ pub payload-length : (d : List ℕ) → length (payloadHash d) ≡ 32
 unfolding payloadHash wordsOf
 payload-length [] = refl
 payload-length (b ∷ d) = refl
+
+-- a word's least byte comes first: the example of Rust's `u32::to_le_bytes`
+pub least-first : leBytes 0x12345678 ≡ 0x78 ∷ 0x56 ∷ 0x34 ∷ 0x12 ∷ []
+least-first = refl
 
 -- a slice from k on, as code reads it, is what is left after k
 pub tail-whole : {A : Type 0} (s : List A) (k : ℕ) → take (length s - k) (drop k s) ≡ drop k s
