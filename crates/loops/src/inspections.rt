@@ -11,6 +11,7 @@ use monitor::plan::plan_from;
 use monitor::plan::seen_for;
 use monitor::plan::spent_for;
 use monitor::rule_calls::plan_rule;
+use monitor::state::MqttMonitor;
 use monitor::state::free_rules;
 use tables::rules::MqttQoS;
 use tables::rules::QosPolicy;
@@ -92,7 +93,7 @@ pub struct HeldRules {
 }
 
 // So many rules that take no topic below `site/+/lamp`, and one last that takes them all. The table is the only part of a monitor that is owned here, and each rule is stored in place.
-fn readied(others: u32) -> HeldRules
+fn held(others: u32) -> HeldRules
     ensures { λ r. ⌜ r ≡ rulesIn (readied others) ⌝ }
 {
     let mut rules = free_rules();
@@ -133,6 +134,18 @@ fn readied(others: u32) -> HeldRules
     HeldRules { rule_count, rules }
 }
 
+// The monitor that blocks by default and has these rules.
+fn readied(others: u32) -> MqttMonitor
+    ensures { λ r. ⌜ r ≡ readied others ⌝ }
+{
+    let table = held(others);
+    let rules = table.rules;
+    let mut m = new_deny_default();
+    m.rules = rules;
+    m.rule_count = table.rule_count;
+    m
+}
+
 // One more where a message is allowed.
 fn count_if(n: u64, allowed: bool) -> u64
     ensures { λ r. ⌜ r ≡ cond allowed (counted n) n ⌝ }
@@ -145,8 +158,8 @@ fn count_if(n: u64, allowed: bool) -> u64
 pub extern "C" fn hub_loop_rules(rules: u32) -> u16
     ensures { λ r. ⌜ r ≡ readied (min (max rules 1) 32 - 1) .«rule_count» ⌝ }
 {
-    let held = readied(within(rules, 32) - 1);
-    held.rule_count
+    let m = readied(within(rules, 32) - 1);
+    m.rule_count
 }
 
 // How many of so many messages of one size are allowed, under 1 to 32 rules and on lent topics of one width in turn; 0 where a topic has more than 128 bytes or none is lent whole.
@@ -161,11 +174,7 @@ pub extern "C" fn hub_loop(rules: u32, topics: &[u8], width: u8, size: u16, mess
     if topics.len() < wide {
         return 0;
     }
-    let held = readied(within(rules, 32) - 1);
-    let table = held.rules;
-    let mut m = new_deny_default();
-    m.rules = table;
-    m.rule_count = held.rule_count;
+    let mut m = readied(within(rules, 32) - 1);
     let mut allowed: u64 = 0;
     let mut from: usize = 0;
     let mut k: u32 = 0;

@@ -14,7 +14,7 @@ use Rattle.monitor.specs.Plan.{planOf}
 use Rattle.monitor.proofs.ApplyLaws.{stored-yes, stored-no, withClients, withBuckets, withTrackers, stored-all}
 use Rattle.monitor.proofs.PlanLaws.{composed}
 use Rattle.loops.specs.Inspections.{fromAt, stateAfter, allowedAfter}
-use Rattle.loops.proofs.LoopLaws.{held-start, next-within, state-turn, allowed-turn, from-turn, too-wide, none-lent, all-run}
+use Rattle.loops.proofs.LoopLaws.{next-within, state-turn, allowed-turn, from-turn, too-wide, none-lent, all-run}
 use Rattle.loops.proofs.inspections.hub_loop.Statement.{statement}
 use Rattle.loops.proofs.inspections.hub_loop.Tie as tie
 
@@ -40,12 +40,9 @@ sub-readied c = search needs
 readied-requires : tie.Need-readied-requires Inv-loop μ-loop
 readied-requires c κs = search needs
 
-new-deny-default-requires : tie.Need-new-deny-default-requires Inv-loop μ-loop
-new-deny-default-requires c κs = search needs
-
 loop-holds : tie.Need-loop-holds Inv-loop μ-loop
 unfolding fromAt stateAfter allowedAfter
-loop-holds c = (omega arith, refl, omega (arith, c .before .before .before .before .if2 .left), held-start _ (c .new-deny-default .ensures) (rw (← c .before .before .before .within .ensures) (c .before .before .readied .ensures)), refl)
+loop-holds c = (omega arith, refl, omega (arith, c .before .before .if2 .left), rw (← c .before .within .ensures) (c .readied .ensures), refl)
 
 add-to : tie.Need-add-to Inv-loop μ-loop
 add-to c = search needs
@@ -107,8 +104,8 @@ element-set-from-tracker c = search needs
 -- the plan that the calls make is the message's
 plan-is : (c : tie.After-plan-from Inv-loop μ-loop)
     → let l = c .before .before .before .before .before .before .before .before .before .before .before .before .before .before in
-    let topics = l .before .before .before .before .before .before .before .before .args .topics .now in
-    let width = l .before .before .before .before .before .before .before .before .args .width in
+    let topics = l .before .before .before .before .before .before .args .topics .now in
+    let width = l .before .before .before .before .before .before .args .width in
     c .plan-from .result ≡ planOf portMatches (l .loop .m) (c .before .before .before .before .before .before .before .before .before .before .before .before .message-at .result) (part topics (l .loop .from) (l .loop .from + width)) (bytes "on")
 plan-is c =
     composed portMatches _ _ _ _ (c .before .before .before .before .before .before .before .before .before .gate-for .ensures) (c .before .before .before .before .before .before .before .seen-for .ensures) (c .before .before .before .before .before .before .id-for .ensures) (c .before .before .before .before .spent-for .ensures) (c .before .before .fed-for .ensures) (c .plan-from .ensures)
@@ -161,7 +158,7 @@ few : (c : tie.After-within Inv-loop μ-loop) → c .before .before .before .bef
 few c = search needs
 
 add-k : tie.Need-add-k Inv-loop μ-loop
-add-k c = record { fits = omega (arith, few (c .before .before .before .before .before .before .before .before .before .before .before .before .before .before .before .before .before .before .before .before .before .before .before .before .before .before .before .before), c .before .before .before .before .before .before .before .before .before .before .before .before .before .before .before .before .before .before .before .before .before .before .before .loop-test .taken) }
+add-k c = record { fits = omega (arith, few (c .before .before .before .before .before .before .before .before .before .before .before .before .before .before .before .before .before .before .before .before .before .before .before .before .before .before), c .before .before .before .before .before .before .before .before .before .before .before .before .before .before .before .before .before .before .before .before .before .before .before .loop-test .taken) }
 
 loop-less : tie.Need-loop-less Inv-loop μ-loop
 loop-less c = omega (arith, c .before .before .before .before .before .before .before .before .before .before .before .before .before .before .before .before .before .before .before .before .before .before .before .loop-test .taken)
@@ -169,13 +166,13 @@ loop-less c = omega (arith, c .before .before .before .before .before .before .b
 loop-again : tie.Need-loop-again Inv-loop μ-loop
 loop-again c =
     let l = c .before .before .before .before .before .before .before .before .before .before .before .before .before .before .before .before .before .before .before .before .before .before .before .before in
-    let a = l .before .before .before .before .before .before .before .before .args in
+    let a = l .before .before .before .before .before .before .args in
     let msg = c .before .before .before .before .before .before .before .before .before .before .before .before .before .before .before .before .before .before .before .before .before .before in
     let plan = plan-is (c .before .before .before .before .before .before .before .before .before .before) in
     let stored = stored-all (l .loop .m) (c .before .before .before .before .before .before .before .before .before .before .plan-from .result) (client-is (c .before .before .before .before .before .before .before)) (bucket-is (c .before .before .before .before .before)) (tracker-is (c .before .before .before)) (c .before .before .before .before .before .before .before .before .before .count-on .ensures) in (
       omega (arith, c .before .before .before .before .before .before .before .before .before .before .before .before .before .before .before .before .before .before .before .before .before .before .before .loop-test .taken),
       from-turn (length (a .topics .now)) (a .width) (l .loop .k) (l .loop .inv .1) (c .next-from .ensures),
-      rw (c .next-from .ensures) (next-within (length (a .topics .now)) (a .width) (l .loop .from) (l .before .before .before .before .before .if2 .left)),
+      rw (c .next-from .ensures) (next-within (length (a .topics .now)) (a .width) (l .loop .from) (l .before .before .before .if2 .left)),
       state-turn _ (a .topics .now) (a .width) (a .size) (l .loop .k) (l .loop .inv .3) (msg .message-at .ensures) (l .loop .inv .1) plan stored,
       allowed-turn _ (a .topics .now) (a .width) (a .size) (l .loop .k) (l .loop .inv .3) (msg .message-at .ensures) (l .loop .inv .1) plan (l .loop .inv .4) (c .before .count-if .ensures),
     )
@@ -183,8 +180,8 @@ loop-again c =
 returns-3 : tie.Need-returns-3 Inv-loop μ-loop
 returns-3 c =
     let l = c .before in
-    let e : l .loop .k ≡ l .before .before .before .before .before .before .before .before .args .messages = omega (arith, l .loop .inv .0, c .loop-test .left) in
-    rw (all-run _ _ _ _ _ (l .before .before .before .before .before .before .if1 .left) (l .before .before .before .before .before .if2 .left), ← e) (l .loop .inv .4)
+    let e : l .loop .k ≡ l .before .before .before .before .before .before .args .messages = omega (arith, l .loop .inv .0, c .loop-test .left) in
+    rw (all-run _ _ _ _ _ (l .before .before .before .before .if1 .left) (l .before .before .before .if2 .left), ← e) (l .loop .inv .4)
 
 pub hub-loop-spec : {M : Type 1} → statement M
 hub-loop-spec =
@@ -197,7 +194,6 @@ hub-loop-spec =
     within-requires
     sub-readied
     readied-requires
-    new-deny-default-requires
     loop-holds
     add-to
     message-at-requires
