@@ -19,7 +19,7 @@ use Rattle.tables.specs.declared.rules.QosPolicy.the-variants.{MinQoS}
 use Rattle.tables.specs.declared.rules.TopicAction.the-variants.{Allow, Block}
 use Rattle.tables.specs.declared.rules.TopicRule.{TopicRule}
 use Rattle.monitor.specs.Alerts.{counted}
-use Rattle.monitor.specs.Calls.{fresh, rulePlan, addRule}
+use Rattle.monitor.specs.Calls.{fresh, rulePlan}
 use Rattle.monitor.specs.Inspect.{applied}
 use Rattle.monitor.specs.Plan.{planOf}
 use Rattle.monitor.specs.Sound.{Sound}
@@ -34,17 +34,19 @@ use Rattle.monitor.proofs.SoundCalls.{sound-fresh, sound-add}
 use Rattle.loops.specs.Inspections.{patternOf, nextFrom, fromAt, messageAt, withRule, ruled, readied, rulesIn, stateAfter, allowedAfter, loopAllowed}
 use Rattle.loops.specs.declared.inspections.HeldRules.{HeldRules}
 
--- a state with rules is sound, and has nothing but them
+-- a state with rules is sound
 ruled-sound : (k : ℕ) → Sound (ruled k)
 unfolding ruled
 ruled-sound zero = sound-fresh Block
 ruled-sound (suc k) = sound-add (ruled-sound k) (patternOf k) Allow (MinQoS AtLeastOnce) 65535
 
+-- it has nothing but them
 ruled-plain : (k : ℕ) → Plain (ruled k)
 unfolding ruled
 ruled-plain zero = fresh-plain Block
 ruled-plain (suc k) = add-plain (ruled k) (patternOf k) Allow (MinQoS AtLeastOnce) 65535 (ruled-plain k)
 
+-- and blocks by default
 ruled-blocks : (k : ℕ) → ruled k .«default_action» ≡ Block
 unfolding ruled fresh
 ruled-blocks zero = refl
@@ -62,14 +64,17 @@ pub ruled-none : {rules : List TopicRule} → rules ≡ replicate 32 emptyRule �
 unfolding ruled
 ruled-none e = rw e (no-rules Block)
 
--- a rule whose plan is known: it is stored, or the table stays
+-- a rule whose plan is known
 module _ (k : ℕ) {rules : List TopicRule} {n : ℕ} (em : holding Block rules n ≡ ruled k) (p : List ℕ) {plan : RulePlan} (e : plan ≡ rulePlan rules n p Allow (MinQoS AtLeastOnce) 65535) where
+  -- number 10 does not come up
   formed : wellFormed (holding Block rules n) ≡ true
   formed = rw em (ruled-sound k .formed)
 
+  -- it is stored
   pub rule-taken : plan .number ≡ 0 → holding Block (set rules (plan .at) (plan .rule)) (plan .count) ≡ withRule (ruled k) p
   rule-taken z = rw (← em) (sym (add-takes (holding Block rules n) p Allow (MinQoS AtLeastOnce) 65535 e formed z))
 
+  -- the table stays
   pub rule-left : (plan .number ≡ 0 → ⊥) → holding Block rules n ≡ withRule (ruled k) p
   rule-left z = rw (← em) (sym (add-leaves (holding Block rules n) p Allow (MinQoS AtLeastOnce) 65535 e formed z))
 

@@ -1,7 +1,7 @@
 -- `inspections::held` meets its contract. The invariant: a fresh monitor with the rules of the table has the first rules; the measure: the rules that are left. Assumes nothing.
 use Prim.Native.Nat.{_-_, _≤_}
 use mathlib.Core.Logic.{⊎-elim}
-use mathlib.Core.Path.{_≡_, refl, ap}
+use mathlib.Core.Path.{_≡_, ap}
 use native.Mathlib.Omega.{arith}
 use borrow.Author.Needs.{needs}
 use Rattle.tables.specs.declared.rules.TopicAction.the-variants.{Block}
