@@ -1,40 +1,87 @@
--- One turn of each loop: a rule more (`ruled-turn`), and a message more, by what its calls handed back (`state-turn`, `allowed-turn`, `from-turn`); and what the loop answers where it does not run. Assumes nothing.
-use Prim.Native.Nat.{ℕ, _+_, _≤_, _<_}
-use mathlib.Core.Bool.{cond}
+-- One turn of each loop: a rule more, stored or left out (`rule-taken`, `rule-left`), and a message more, by what its calls handed back (`state-turn`, `allowed-turn`, `from-turn`); the monitor between the loops
+-- (`held-start`); and what the loop answers where it does not run. Assumes nothing.
+use Prim.Native.Nat.{ℕ, zero, suc, _+_, _≤_, _<_}
+use mathlib.Core.Bool.{true, cond}
 use mathlib.Core.List.{List}
-use mathlib.Core.Path.{_≡_}
+use mathlib.Core.Path.{_≡_, refl, sym, _∙_}
 use native.Mathlib.Numerals.{add-one}
 use native.Mathlib.Omega.{arith}
 use lib.Dec.{leb}
-use lib.ListN.{length}
+use lib.ListN.{length, set, replicate}
 use borrow.Author.Tests.{lt-ltb, le-ltb, leb-true}
 use Rattle.topics.specs.Matching.{portMatches}
 use Rattle.lines.specs.Bytes.{bytes}
 use Rattle.lines.specs.Span.{part}
 use Rattle.lines.proofs.Cases.{by}
+use Rattle.tables.specs.Rules.{emptyRule}
 use Rattle.tables.specs.declared.rules.MqttQoS.the-variants.{AtLeastOnce}
 use Rattle.tables.specs.declared.rules.QosPolicy.the-variants.{MinQoS}
-use Rattle.tables.specs.declared.rules.TopicAction.the-variants.{Allow}
+use Rattle.tables.specs.declared.rules.TopicAction.the-variants.{Allow, Block}
+use Rattle.tables.specs.declared.rules.TopicRule.{TopicRule}
 use Rattle.monitor.specs.Alerts.{counted}
-use Rattle.monitor.specs.Calls.{addRule}
+use Rattle.monitor.specs.Calls.{fresh, rulePlan}
 use Rattle.monitor.specs.Inspect.{applied}
 use Rattle.monitor.specs.Plan.{planOf}
+use Rattle.monitor.specs.Sound.{Sound}
+use Rattle.monitor.specs.State.{wellFormed, withRules}
 use Rattle.monitor.specs.declared.message.MqttMessage.{MqttMessage}
 use Rattle.monitor.specs.declared.plan.Plan.{Plan}
-use Rattle.monitor.specs.declared.state.Called.{Called}
+use Rattle.monitor.specs.declared.rule_calls.RulePlan.{RulePlan}
 use Rattle.monitor.specs.declared.state.MqttMonitor.{MqttMonitor}
-use Rattle.loops.specs.Inspections.{patternOf, nextFrom, fromAt, messageAt, ruled, readied, stateAfter, allowedAfter, loopAllowed}
+use Rattle.monitor.proofs.AddLaws.{add-takes, add-leaves}
+use Rattle.monitor.proofs.PlainLaws.{holding, no-rules, Plain, fresh-plain, add-plain, add-default}
+use Rattle.monitor.proofs.SoundCalls.{sound-fresh, sound-add}
+use Rattle.loops.specs.Inspections.{patternOf, nextFrom, fromAt, messageAt, withRule, ruled, readied, rulesIn, stateAfter, allowedAfter, loopAllowed}
+use Rattle.loops.specs.declared.inspections.HeldRules.{HeldRules}
 
--- one more rule that takes none of the topics
-pub ruled-turn : (k : ℕ) {m : MqttMonitor} {p : List ℕ} {r : Called} → m ≡ ruled k → p ≡ patternOf k
-    → r ≡ addRule m p Allow (MinQoS AtLeastOnce) 65535 → r .monitor ≡ ruled (k + 1)
+-- a state with rules is sound
+ruled-sound : (k : ℕ) → Sound (ruled k)
 unfolding ruled
-ruled-turn k em ep er = rw (er, ep, em, add-one k)
+ruled-sound zero = sound-fresh Block
+ruled-sound (suc k) = sound-add (ruled-sound k) (patternOf k) Allow (MinQoS AtLeastOnce) 65535
 
--- the last rule
-pub ruled-last : {k n : ℕ} {m : MqttMonitor} {r : Called} → k ≡ n → m ≡ ruled k
-    → r ≡ addRule m (bytes "site/+/lamp/+") Allow (MinQoS AtLeastOnce) 65535 → r .monitor ≡ readied n
-ruled-last ek em er = rw (er, em, ek)
+-- it has nothing but them
+ruled-plain : (k : ℕ) → Plain (ruled k)
+unfolding ruled
+ruled-plain zero = fresh-plain Block
+ruled-plain (suc k) = add-plain (ruled k) (patternOf k) Allow (MinQoS AtLeastOnce) 65535 (ruled-plain k)
+
+-- and blocks by default
+ruled-blocks : (k : ℕ) → ruled k .«default_action» ≡ Block
+unfolding ruled fresh
+ruled-blocks zero = refl
+ruled-blocks (suc k) = add-default (ruled k) (patternOf k) Allow (MinQoS AtLeastOnce) 65535 ∙ ruled-blocks k
+
+-- so a fresh monitor that gets all the rules is the one that is wanted
+pub held-start : (n : ℕ) {m : MqttMonitor} {held : HeldRules} → m ≡ fresh Block → held ≡ rulesIn (readied n) → withRules m (held .rules) (held .«rule_count») ≡ readied n
+held-start n em eh =
+    let last = bytes "site/+/lamp/+" in
+    let default : readied n .«default_action» ≡ Block = add-default (ruled n) last Allow (MinQoS AtLeastOnce) 65535 ∙ ruled-blocks n in
+    rw (em, eh) (rw default at (add-plain (ruled n) last Allow (MinQoS AtLeastOnce) 65535 (ruled-plain n)))
+
+-- before the first
+pub ruled-none : {rules : List TopicRule} → rules ≡ replicate 32 emptyRule → holding Block rules 0 ≡ ruled 0
+unfolding ruled
+ruled-none e = rw e (no-rules Block)
+
+-- a rule whose plan is known
+module _ (k : ℕ) {rules : List TopicRule} {n : ℕ} (em : holding Block rules n ≡ ruled k) (p : List ℕ) {plan : RulePlan} (e : plan ≡ rulePlan rules n p Allow (MinQoS AtLeastOnce) 65535) where
+  -- number 10 does not come up
+  formed : wellFormed (holding Block rules n) ≡ true
+  formed = rw em (ruled-sound k .formed)
+
+  -- it is stored
+  pub rule-taken : plan .number ≡ 0 → holding Block (set rules (plan .at) (plan .rule)) (plan .count) ≡ withRule (ruled k) p
+  rule-taken z = rw (← em) (sym (add-takes (holding Block rules n) p Allow (MinQoS AtLeastOnce) 65535 e formed z))
+
+  -- the table stays
+  pub rule-left : (plan .number ≡ 0 → ⊥) → holding Block rules n ≡ withRule (ruled k) p
+  rule-left z = rw (← em) (sym (add-leaves (holding Block rules n) p Allow (MinQoS AtLeastOnce) 65535 e formed z))
+
+-- the loop's rules: one more
+pub ruled-turn : (k : ℕ) {m : MqttMonitor} {p : List ℕ} → p ≡ patternOf k → m ≡ withRule (ruled k) p → m ≡ ruled (k + 1)
+unfolding ruled
+ruled-turn k ep e = rw (e, ep, add-one k)
 
 -- a topic that begins where it should ends inside the text
 pub next-within : (long width from : ℕ) → width ≤ long → nextFrom long width from + width ≤ long

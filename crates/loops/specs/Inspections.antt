@@ -20,6 +20,7 @@ use Rattle.monitor.specs.declared.message.MqttMessage.{MqttMessage}
 use Rattle.monitor.specs.declared.message.MqttPacketType.the-variants.{Publish}
 use Rattle.monitor.specs.declared.plan.Plan.{Plan}
 use Rattle.monitor.specs.declared.state.MqttMonitor.{MqttMonitor}
+use Rattle.loops.specs.declared.inspections.HeldRules.{HeldRules}
 
 -- a pattern that takes no topic below `site/+/lamp`: `site/+/room-0/#` and so on
 abbrev pub patternOf : ℕ → List ℕ
@@ -59,6 +60,10 @@ ruled (suc k) = withRule (ruled k) (patternOf k)
 -- and one last that takes every topic below `site/+/lamp`
 abbrev pub readied : ℕ → MqttMonitor
 readied n = withRule (ruled n) (bytes "site/+/lamp/+")
+
+-- the rules of a state
+abbrev pub rulesIn : MqttMonitor → HeldRules
+rulesIn m = record { «rule_count» = m .«rule_count»; rules = m .rules }
 
 -- messages of one size, on topics of one width in turn
 module _ (n : ℕ) (topics : List ℕ) (width size : ℕ) where

@@ -1,20 +1,27 @@
-// One loop owns the monitor and inspects message after message: each is planned and its records are stored in place, as in `trace::run`. Rules and times are
-// made from numbers, so that the Rust can be given the same; topics are lent, since what the compiler knows of them it computes beforehand.
+// One loop owns the monitor and inspects message after message: each table is asked by itself and what was decided is stored in place, as in `trace::run`; the rules are made in
+// a table alone. Rules and times are made from numbers, so that the Rust can be given the same; topics are lent, since what the compiler knows of them it computes beforehand.
 use monitor::alerts::count_on;
 use monitor::calls::new_deny_default;
+use monitor::gate::gate_for;
 use monitor::message::MqttMessage;
 use monitor::message::MqttPacketType;
-use monitor::plan::plan_for;
-use monitor::rule_calls::add_rule;
+use monitor::plan::fed_for;
+use monitor::plan::id_for;
+use monitor::plan::plan_from;
+use monitor::plan::seen_for;
+use monitor::plan::spent_for;
+use monitor::rule_calls::plan_rule;
 use monitor::state::MqttMonitor;
+use monitor::state::free_rules;
 use tables::rules::MqttQoS;
 use tables::rules::QosPolicy;
 use tables::rules::TopicAction;
+use tables::rules::TopicRule;
 ghost use mathlib.Core.Bool.{cond};
 ghost use mathlib.Core.Path.{_≡_};
 ghost use Prim.Native.Nat.{_+_, _-_, _≤_, min, max};
 ghost use Rattle.monitor.specs.Alerts.{counted};
-ghost use Rattle.loops.specs.Inspections.{patternOf, nextFrom, messageAt, readied, loopAllowed};
+ghost use Rattle.loops.specs.Inspections.{patternOf, nextFrom, messageAt, readied, rulesIn, loopAllowed};
 
 // A number brought into 1 to `most`.
 fn within(n: u32, most: u32) -> u32
@@ -79,34 +86,64 @@ fn message_at(topic_len: u8, size: u16, k: u32) -> MqttMessage
     }
 }
 
-// A monitor that blocks by default, with so many rules that take no topic below `site/+/lamp`, and one last that takes them all.
-fn readied(others: u32) -> MqttMonitor
-    ensures { λ r. ⌜ r ≡ readied others ⌝ }
+// The rules of a monitor: the first so many places of the table.
+pub struct HeldRules {
+    pub rule_count: u16,
+    pub rules: [TopicRule; 32],
+}
+
+// So many rules that take no topic below `site/+/lamp`, and one last that takes them all. The table is the only part of a monitor that is owned here, and each rule is stored in place.
+fn held(others: u32) -> HeldRules
+    ensures { λ r. ⌜ r ≡ rulesIn (readied others) ⌝ }
 {
-    let mut m = new_deny_default();
+    let mut rules = free_rules();
+    let mut rule_count = 0;
     let mut k: u32 = 0;
     while k < others {
         let pattern = pattern_of(k);
-        let called = add_rule(
-            m,
+        let plan = plan_rule(
+            rules,
+            rule_count,
             &pattern[..],
             TopicAction::Allow,
             QosPolicy::MinQoS(MqttQoS::AtLeastOnce),
             65535,
         );
-        let next = called.monitor;
-        m = next;
+        if plan.number == 0 {
+            let place = plan.at;
+            let taken = plan.rule;
+            rules[place] = taken;
+            rule_count = plan.count;
+        }
         k += 1;
     }
-    let called = add_rule(
-        m,
+    let plan = plan_rule(
+        rules,
+        rule_count,
         b"site/+/lamp/+",
         TopicAction::Allow,
         QosPolicy::MinQoS(MqttQoS::AtLeastOnce),
         65535,
     );
-    let last = called.monitor;
-    last
+    if plan.number == 0 {
+        let place = plan.at;
+        let taken = plan.rule;
+        rules[place] = taken;
+        rule_count = plan.count;
+    }
+    HeldRules { rule_count, rules }
+}
+
+// The monitor that blocks by default and has these rules.
+fn readied(others: u32) -> MqttMonitor
+    ensures { λ r. ⌜ r ≡ readied others ⌝ }
+{
+    let table = held(others);
+    let rules = table.rules;
+    let mut m = new_deny_default();
+    m.rules = rules;
+    m.rule_count = table.rule_count;
+    m
 }
 
 // One more where a message is allowed.
@@ -143,7 +180,34 @@ pub extern "C" fn hub_loop(rules: u32, topics: &[u8], width: u8, size: u16, mess
     let mut k: u32 = 0;
     while k < messages {
         let to = from + wide;
-        let plan = plan_for(m, message_at(width, size, k), &topics[from..to], b"on");
+        let msg = message_at(width, size, k);
+        let name = &topics[from..to];
+        let table = m.rules;
+        let default_action = m.default_action;
+        let gate = gate_for(table, m.rule_count, default_action, msg, name);
+        let clients = m.client_hashes;
+        let seen = seen_for(
+            clients,
+            m.connect_storm_threshold,
+            m.connect_storm_window_us,
+            msg,
+            name,
+        );
+        let id = id_for(gate, name);
+        let buckets = m.rate_buckets;
+        let spent = spent_for(buckets, gate, id, msg.timestamp_us);
+        let trackers = m.ewma_trackers;
+        let fed = fed_for(trackers, gate, id, msg);
+        let plan = plan_from(
+            gate,
+            seen,
+            spent,
+            fed,
+            msg,
+            b"on",
+            m.next_alert_id,
+            m.total_alerts,
+        );
         let inspected = count_on(m.total_inspected);
         let seen = plan.seen;
         let seen_at = seen.at;

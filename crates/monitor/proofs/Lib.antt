@@ -12,6 +12,7 @@ pub mod KeptFormed
 pub mod KindLaws
 pub mod Link
 pub mod MoveLaws
+pub mod PlainLaws
 pub mod PlanLaws
 pub mod Reached
 pub mod SoundBuckets

@@ -10,17 +10,16 @@ use lib.Dec.{eqb, leb}
 use lib.ListN.{length, set, replicate}
 use borrow.Author.Tests.{eq-eqb, ne-eqb, le-leb, lt-leb}
 use Rattle.tables.specs.Rules.{emptyRule}
-use Rattle.tables.specs.declared.rules.QosPolicy.{QosPolicy}
 use Rattle.tables.specs.declared.rules.TopicAction.{TopicAction}
 use Rattle.tables.specs.declared.rules.TopicAction.the-variants.{Allow}
 use Rattle.tables.specs.declared.rules.TopicRule.{TopicRule}
-use Rattle.monitor.specs.Calls.{fresh, tested, rulePlan, addRule}
+use Rattle.monitor.specs.Calls.{fresh, rulePlan, addRule}
 use Rattle.monitor.specs.Sound.{Sound}
 use Rattle.monitor.specs.State.{withRules}
 use Rattle.monitor.specs.declared.rule_calls.RulePlan.{RulePlan}
-use Rattle.monitor.specs.declared.state.Called.{Called}
 use Rattle.monitor.specs.declared.state.MqttMonitor.{MqttMonitor}
 use Rattle.monitor.proofs.AddLaws.{add-number, add-takes, add-leaves}
+use Rattle.monitor.proofs.PlainLaws.{holding, no-rules, Plain, fresh-plain, add-plain}
 use Rattle.monitor.proofs.SoundCalls.{sound-fresh, sound-add}
 use Rattle.trace.specs.Groups.{openingOf, ruleAt, patternIn}
 use Rattle.trace.specs.Trace.{Loaded, notLoaded, ruleInto, rulesInto, loadedFrom, loaded, rulesOf}
@@ -42,20 +41,7 @@ unfolding rulesInto
 rules-turn zero s l h z = absurd (omega arith)
 rules-turn (suc k) s l h z = rw (eq-eqb _ _ z, sub-one)
 
--- only rules were added to a fresh monitor
-abbrev Plain : MqttMonitor → Type 0
-Plain m = withRules (fresh (m .«default_action»)) (m .rules) (m .«rule_count») ≡ m
-
-fresh-plain : (default : TopicAction) → Plain (fresh default)
-unfolding fresh
-fresh-plain default = refl
-
-add-plain : (m : MqttMonitor) (p : List ℕ) (action : TopicAction) (policy : QosPolicy) (rate : ℕ) → Plain m → Plain (addRule m p action policy rate .monitor)
-unfolding addRule
-add-plain m p action policy rate h =
-    let d = rulePlan (m .rules) (m .«rule_count») p action policy rate in
-    choose (λ (x : Called). Plain (x .monitor)) (eqb (tested m (d .number)) 0) (ap (λ (x : MqttMonitor). withRules x (set (m .rules) (d .at) (d .rule)) (d .count)) h) h
-
+-- only rules are added to a fresh monitor
 rule-plain : (m : MqttMonitor) (s : List ℕ) (line : ℕ) (r : RuleLines) → Plain m → Plain (ruleInto m s line r .monitor)
 unfolding ruleInto
 rule-plain m s line r h = choose (λ (l : Loaded). Plain (l .monitor)) (eqb (r .number) 0) (add-plain m _ _ _ _ h) h
@@ -83,17 +69,9 @@ abbrev table : ℕ → ℕ → ℕ → TopicAction → List TopicRule → ℕ �
 table number line next default rules n =
     record { number = number; line = line; next = next; «default_action» = default; «rule_count» = n; rules = rules }
 
--- the monitor that has these rules
-abbrev holding : TopicAction → List TopicRule → ℕ → MqttMonitor
-holding default rules n = withRules (fresh default) rules n
-
 says : {l : Loaded} {number line next : ℕ} (default : TopicAction) {rules : List TopicRule} {n : ℕ} → notLoaded number line next (holding default rules n) ≡ l → table number line next default rules n ≡ rulesOf l
 unfolding fresh
 says default e = ap rulesOf e
-
-no-rules : (default : TopicAction) → holding default (replicate 32 emptyRule) 0 ≡ fresh default
-unfolding fresh
-no-rules default = refl
 
 -- the text is too long
 pub load-long : (s : List ℕ) {rules : List TopicRule} → 65536 < length s → rules ≡ replicate 32 emptyRule → table 27 0 0 Allow rules 0 ≡ rulesOf (loaded s)

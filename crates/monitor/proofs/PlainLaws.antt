@@ -1,0 +1,42 @@
+-- A fresh monitor to which only rules are added has nothing but its table of rules (`Plain`): so whoever makes such a monitor need own only the table (`holding`). Assumes nothing.
+use mathlib.Core.List.{List}
+use mathlib.Core.Path.{_≡_, refl, ap}
+use Prim.Native.Nat.{ℕ}
+use lib.Dec.{eqb}
+use lib.ListN.{set, replicate}
+use Rattle.topics.proofs.ByteLaws.{by}
+use Rattle.tables.specs.Rules.{emptyRule}
+use Rattle.tables.specs.declared.rules.QosPolicy.{QosPolicy}
+use Rattle.tables.specs.declared.rules.TopicAction.{TopicAction}
+use Rattle.tables.specs.declared.rules.TopicRule.{TopicRule}
+use Rattle.monitor.specs.Calls.{fresh, tested, rulePlan, addRule}
+use Rattle.monitor.specs.State.{withRules}
+use Rattle.monitor.specs.declared.state.MqttMonitor.{MqttMonitor}
+
+-- the monitor that has these rules
+abbrev pub holding : TopicAction → List TopicRule → ℕ → MqttMonitor
+holding default rules n = withRules (fresh default) rules n
+
+-- with a free table it is as it began
+pub no-rules : (default : TopicAction) → holding default (replicate 32 emptyRule) 0 ≡ fresh default
+unfolding fresh
+no-rules default = refl
+
+-- only rules were added to a fresh monitor
+abbrev pub Plain : MqttMonitor → Type 0
+Plain m = holding (m .«default_action») (m .rules) (m .«rule_count») ≡ m
+
+pub fresh-plain : (default : TopicAction) → Plain (fresh default)
+unfolding fresh
+fresh-plain default = refl
+
+pub add-plain : (m : MqttMonitor) (p : List ℕ) (action : TopicAction) (policy : QosPolicy) (rate : ℕ) → Plain m → Plain (addRule m p action policy rate .monitor)
+unfolding addRule
+add-plain m p action policy rate h =
+    let d = rulePlan (m .rules) (m .«rule_count») p action policy rate in
+    by (eqb (tested m (d .number)) 0) (λ e. rw e (ap (λ (x : MqttMonitor). withRules x (set (m .rules) (d .at) (d .rule)) (d .count)) h)) (λ e. rw e h)
+
+-- whose default stays
+pub add-default : (m : MqttMonitor) (p : List ℕ) (action : TopicAction) (policy : QosPolicy) (rate : ℕ) → addRule m p action policy rate .monitor .«default_action» ≡ m .«default_action»
+unfolding addRule
+add-default m p action policy rate = by (eqb (tested m (rulePlan (m .rules) (m .«rule_count») p action policy rate .number)) 0) (λ e. rw e) (λ e. rw e)
