@@ -2,14 +2,9 @@
 // a table alone. Rules and times are made from numbers, so that the Rust can be given the same; topics are lent, since what the compiler knows of them it computes beforehand.
 use monitor::alerts::count_on;
 use monitor::calls::new_deny_default;
-use monitor::gate::gate_for;
 use monitor::message::MqttMessage;
 use monitor::message::MqttPacketType;
-use monitor::plan::fed_for;
-use monitor::plan::id_for;
-use monitor::plan::plan_from;
-use monitor::plan::seen_for;
-use monitor::plan::spent_for;
+use monitor::plan::plan_for;
 use monitor::rule_calls::plan_rule;
 use monitor::state::MqttMonitor;
 use monitor::state::free_rules;
@@ -180,34 +175,7 @@ pub extern "C" fn hub_loop(rules: u32, topics: &[u8], width: u8, size: u16, mess
     let mut k: u32 = 0;
     while k < messages {
         let to = from + wide;
-        let msg = message_at(width, size, k);
-        let name = &topics[from..to];
-        let table = m.rules;
-        let default_action = m.default_action;
-        let gate = gate_for(table, m.rule_count, default_action, msg, name);
-        let clients = m.client_hashes;
-        let seen = seen_for(
-            clients,
-            m.connect_storm_threshold,
-            m.connect_storm_window_us,
-            msg,
-            name,
-        );
-        let id = id_for(gate, name);
-        let buckets = m.rate_buckets;
-        let spent = spent_for(buckets, gate, id, msg.timestamp_us);
-        let trackers = m.ewma_trackers;
-        let fed = fed_for(trackers, gate, id, msg);
-        let plan = plan_from(
-            gate,
-            seen,
-            spent,
-            fed,
-            msg,
-            b"on",
-            m.next_alert_id,
-            m.total_alerts,
-        );
+        let plan = plan_for(m, message_at(width, size, k), &topics[from..to], b"on");
         let inspected = count_on(m.total_inspected);
         let seen = plan.seen;
         let seen_at = seen.at;

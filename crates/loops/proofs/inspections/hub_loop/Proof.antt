@@ -6,24 +6,19 @@ use mathlib.Core.Path.{_≡_, refl, sym}
 use native.Mathlib.Omega.{arith}
 use lib.ListN.{length}
 use borrow.Author.Needs.{needs}
-use Rattle.topics.specs.Matching.{portMatches}
-use Rattle.lines.specs.Bytes.{bytes}
-use Rattle.lines.specs.Span.{part}
 use Rattle.monitor.specs.Inspect.{storedAt}
-use Rattle.monitor.specs.Plan.{planOf}
 use Rattle.monitor.proofs.ApplyLaws.{stored-yes, stored-no, withClients, withBuckets, withTrackers, stored-all}
-use Rattle.monitor.proofs.PlanLaws.{composed}
 use Rattle.loops.specs.Inspections.{fromAt, stateAfter, allowedAfter}
 use Rattle.loops.proofs.LoopLaws.{next-within, state-turn, allowed-turn, from-turn, too-wide, none-lent, all-run}
 use Rattle.loops.proofs.inspections.hub_loop.Statement.{statement}
 use Rattle.loops.proofs.inspections.hub_loop.Tie as tie
 
 abbrev Inv-loop : tie.InvT-loop
-Inv-loop rules topics width size messages wide m₀ allowed₀ from₀ k₀ t38 m allowed from k = (k ≤ messages) × (from ≡ fromAt (length topics) width k) × (from + width ≤ length topics)
+Inv-loop rules topics width size messages wide m₀ allowed₀ from₀ k₀ t24 m allowed from k = (k ≤ messages) × (from ≡ fromAt (length topics) width k) × (from + width ≤ length topics)
     × (m ≡ stateAfter (min (max rules 1) 32 - 1) topics width size k) × (allowed ≡ allowedAfter (min (max rules 1) 32 - 1) topics width size k)
 
 abbrev μ-loop : tie.MeasureT-loop
-μ-loop rules topics width size messages wide m₀ allowed₀ from₀ k₀ t38 m allowed from k = messages - k
+μ-loop rules topics width size messages wide m₀ allowed₀ from₀ k₀ t24 m allowed from k = messages - k
 
 returns : tie.Need-returns Inv-loop μ-loop
 returns c = sym (too-wide _ _ _ _ _ (c .if1 .taken))
@@ -50,35 +45,20 @@ add-to c = search needs
 message-at-requires : tie.Need-message-at-requires Inv-loop μ-loop
 message-at-requires c κs = search needs
 
-sub-name : tie.Need-sub-name Inv-loop μ-loop
-sub-name c = search needs
+sub-plan-for : tie.Need-sub-plan-for Inv-loop μ-loop
+sub-plan-for c = search needs
 
-part-name-start : tie.Need-part-name-start Inv-loop μ-loop
-part-name-start c = search needs
+part-plan-for-start : tie.Need-part-plan-for-start Inv-loop μ-loop
+part-plan-for-start c = search needs
 
-part-name-end : tie.Need-part-name-end Inv-loop μ-loop
-part-name-end c = search needs
+part-plan-for-end : tie.Need-part-plan-for-end Inv-loop μ-loop
+part-plan-for-end c = search needs
 
-gate-for-requires : tie.Need-gate-for-requires Inv-loop μ-loop
-gate-for-requires c κs = search needs
+slice-aggregate-plan-for : tie.Need-slice-aggregate-plan-for Inv-loop μ-loop
+slice-aggregate-plan-for c = search needs
 
-seen-for-requires : tie.Need-seen-for-requires Inv-loop μ-loop
-seen-for-requires c κs = search needs
-
-id-for-requires : tie.Need-id-for-requires Inv-loop μ-loop
-id-for-requires c κs = search needs
-
-spent-for-requires : tie.Need-spent-for-requires Inv-loop μ-loop
-spent-for-requires c κs = search needs
-
-fed-for-requires : tie.Need-fed-for-requires Inv-loop μ-loop
-fed-for-requires c κs = search needs
-
-slice-aggregate-plan-from : tie.Need-slice-aggregate-plan-from Inv-loop μ-loop
-slice-aggregate-plan-from c = search needs
-
-plan-from-requires : tie.Need-plan-from-requires Inv-loop μ-loop
-plan-from-requires c κs = search needs
+plan-for-requires : tie.Need-plan-for-requires Inv-loop μ-loop
+plan-for-requires c κs = search needs
 
 count-on-requires : tie.Need-count-on-requires Inv-loop μ-loop
 count-on-requires c κs = search needs
@@ -101,23 +81,14 @@ mul-tracker c = search needs
 element-set-from-tracker : tie.Need-element-set-from-tracker Inv-loop μ-loop
 element-set-from-tracker c = search needs
 
--- the plan that the calls make is the message's
-plan-is : (c : tie.After-plan-from Inv-loop μ-loop)
-    → let l = c .before .before .before .before .before .before .before .before .before .before .before .before .before .before in
-    let topics = l .before .before .before .before .before .before .args .topics .now in
-    let width = l .before .before .before .before .before .before .args .width in
-    c .plan-from .result ≡ planOf portMatches (l .loop .m) (c .before .before .before .before .before .before .before .before .before .before .before .before .message-at .result) (part topics (l .loop .from) (l .loop .from + width)) (bytes "on")
-plan-is c =
-    composed portMatches _ _ _ _ (c .before .before .before .before .before .before .before .before .before .gate-for .ensures) (c .before .before .before .before .before .before .before .seen-for .ensures) (c .before .before .before .before .before .before .id-for .ensures) (c .before .before .before .before .spent-for .ensures) (c .before .before .fed-for .ensures) (c .plan-from .ensures)
-
 -- the state after each store, where the ways from its test meet
 client-is : (c : tie.Joined3 Inv-loop μ-loop)
-    → let m = c .before .before .before .before .before .before .before .before .before .before .before .before .before .before .before .before .before .loop .m in
-    let d = c .before .before .before .plan-from .result .seen in
+    → let m = c .before .before .before .before .before .before .before .before .loop .m in
+    let d = c .before .before .before .plan-for .result .seen in
     c .if3 .m ≡ withClients m (storedAt 16 (m .«client_hashes») (d .at) (d .entry))
 client-is c =
-    let m = c .before .before .before .before .before .before .before .before .before .before .before .before .before .before .before .before .before .loop .m in
-    let d = c .before .before .before .plan-from .result .seen in
+    let m = c .before .before .before .before .before .before .before .before .loop .m in
+    let d = c .before .before .before .plan-for .result .seen in
     ⊎-elim
     (λ w. stored-yes (withClients m) 16 (m .«client_hashes») (d .at) (d .entry) (w .0 .taken) (w .2))
     (λ w. stored-no (withClients m) 16 (m .«client_hashes») (d .at) (d .entry) (w .0 .left) (w .1))
@@ -125,11 +96,11 @@ client-is c =
 
 bucket-is : (c : tie.Joined4 Inv-loop μ-loop)
     → let m = c .before .before .if3 .m in
-    let d = c .before .before .before .before .before .plan-from .result .spent in
+    let d = c .before .before .before .before .before .plan-for .result .spent in
     c .if4 .m ≡ withBuckets m (storedAt 32 (m .«rate_buckets») (d .at) (d .bucket))
 bucket-is c =
     let m = c .before .before .if3 .m in
-    let d = c .before .before .before .before .before .plan-from .result .spent in
+    let d = c .before .before .before .before .before .plan-for .result .spent in
     ⊎-elim
     (λ w. stored-yes (withBuckets m) 32 (m .«rate_buckets») (d .at) (d .bucket) (w .0 .taken) (w .2))
     (λ w. stored-no (withBuckets m) 32 (m .«rate_buckets») (d .at) (d .bucket) (w .0 .left) (w .1))
@@ -137,11 +108,11 @@ bucket-is c =
 
 tracker-is : (c : tie.Joined5 Inv-loop μ-loop)
     → let m = c .before .before .if4 .m in
-    let d = c .before .before .before .before .before .before .before .plan-from .result .fed in
+    let d = c .before .before .before .before .before .before .before .plan-for .result .fed in
     c .if5 .m ≡ withTrackers m (storedAt 16 (m .«ewma_trackers») (d .at) (d .tracker))
 tracker-is c =
     let m = c .before .before .if4 .m in
-    let d = c .before .before .before .before .before .before .before .plan-from .result .fed in
+    let d = c .before .before .before .before .before .before .before .plan-for .result .fed in
     ⊎-elim
     (λ w. stored-yes (withTrackers m) 16 (m .«ewma_trackers») (d .at) (d .tracker) (w .0 .taken) (w .2))
     (λ w. stored-no (withTrackers m) 16 (m .«ewma_trackers») (d .at) (d .tracker) (w .0 .left) (w .1))
@@ -151,30 +122,30 @@ count-if-requires : tie.Need-count-if-requires Inv-loop μ-loop
 count-if-requires c κs = search needs
 
 next-from-requires : tie.Need-next-from-requires Inv-loop μ-loop
-next-from-requires c κs = c .before .before .before .before .before .before .before .before .before .before .before .before .before .before .before .before .before .before .before .before .before .before .before .loop .inv .2
+next-from-requires c κs = search needs
 
 -- the count of messages has 32 bits
 few : (c : tie.After-within Inv-loop μ-loop) → c .before .before .before .before .args .messages < 4294967296
 few c = search needs
 
 add-k : tie.Need-add-k Inv-loop μ-loop
-add-k c = record { fits = omega (arith, few (c .before .before .before .before .before .before .before .before .before .before .before .before .before .before .before .before .before .before .before .before .before .before .before .before .before .before), c .before .before .before .before .before .before .before .before .before .before .before .before .before .before .before .before .before .before .before .before .before .before .before .loop-test .taken) }
+add-k c = record { fits = omega (arith, few (c .before .before .before .before .before .before .before .before .before .before .before .before .before .before .before .before .before), c .before .before .before .before .before .before .before .before .before .before .before .before .before .before .loop-test .taken) }
 
 loop-less : tie.Need-loop-less Inv-loop μ-loop
-loop-less c = omega (arith, c .before .before .before .before .before .before .before .before .before .before .before .before .before .before .before .before .before .before .before .before .before .before .before .loop-test .taken)
+loop-less c = search needs
 
 loop-again : tie.Need-loop-again Inv-loop μ-loop
 loop-again c =
-    let l = c .before .before .before .before .before .before .before .before .before .before .before .before .before .before .before .before .before .before .before .before .before .before .before .before in
+    let l = c .before .before .before .before .before .before .before .before .before .before .before .before .before .before .before in
     let a = l .before .before .before .before .before .before .args in
-    let msg = c .before .before .before .before .before .before .before .before .before .before .before .before .before .before .before .before .before .before .before .before .before .before in
-    let plan = plan-is (c .before .before .before .before .before .before .before .before .before .before) in
-    let stored = stored-all (l .loop .m) (c .before .before .before .before .before .before .before .before .before .before .plan-from .result) (client-is (c .before .before .before .before .before .before .before)) (bucket-is (c .before .before .before .before .before)) (tracker-is (c .before .before .before)) (c .before .before .before .before .before .before .before .before .before .count-on .ensures) in (
-      omega (arith, c .before .before .before .before .before .before .before .before .before .before .before .before .before .before .before .before .before .before .before .before .before .before .before .loop-test .taken),
+    let plan = c .before .before .before .before .before .before .before .before .before .before in
+    let msg = c .before .before .before .before .before .before .before .before .before .before .before .before .before in
+    let stored = stored-all (l .loop .m) (plan .plan-for .result) (client-is (c .before .before .before .before .before .before .before)) (bucket-is (c .before .before .before .before .before)) (tracker-is (c .before .before .before)) (c .before .before .before .before .before .before .before .before .before .count-on .ensures) in (
+      omega (arith, c .before .before .before .before .before .before .before .before .before .before .before .before .before .before .loop-test .taken),
       from-turn (length (a .topics .now)) (a .width) (l .loop .k) (l .loop .inv .1) (c .next-from .ensures),
       rw (c .next-from .ensures) (next-within (length (a .topics .now)) (a .width) (l .loop .from) (l .before .before .before .if2 .left)),
-      state-turn _ (a .topics .now) (a .width) (a .size) (l .loop .k) (l .loop .inv .3) (msg .message-at .ensures) (l .loop .inv .1) plan stored,
-      allowed-turn _ (a .topics .now) (a .width) (a .size) (l .loop .k) (l .loop .inv .3) (msg .message-at .ensures) (l .loop .inv .1) plan (l .loop .inv .4) (c .before .count-if .ensures),
+      state-turn _ (a .topics .now) (a .width) (a .size) (l .loop .k) (l .loop .inv .3) (msg .message-at .ensures) (l .loop .inv .1) (plan .plan-for .ensures) stored,
+      allowed-turn _ (a .topics .now) (a .width) (a .size) (l .loop .k) (l .loop .inv .3) (msg .message-at .ensures) (l .loop .inv .1) (plan .plan-for .ensures) (l .loop .inv .4) (c .before .count-if .ensures),
     )
 
 returns-3 : tie.Need-returns-3 Inv-loop μ-loop
@@ -197,16 +168,11 @@ hub-loop-spec =
     loop-holds
     add-to
     message-at-requires
-    sub-name
-    part-name-start
-    part-name-end
-    gate-for-requires
-    seen-for-requires
-    id-for-requires
-    spent-for-requires
-    fed-for-requires
-    slice-aggregate-plan-from
-    plan-from-requires
+    sub-plan-for
+    part-plan-for-start
+    part-plan-for-end
+    slice-aggregate-plan-for
+    plan-for-requires
     count-on-requires
     mul-entry
     element-set-from-entry
