@@ -15,9 +15,9 @@ use cut::args::is;
 use cut::args::number;
 use cut::args::unhex;
 use cut::upto;
-use monitor::alerts::AlertSeverity;
 use monitor::alerts::MqttInspectResult;
 use monitor::alerts::SecurityAlert;
+use monitor::alerts::severity_number;
 use monitor::inspection::Inspected;
 use monitor::message::MqttMessage;
 use monitor::message::MqttPacketType;
@@ -84,17 +84,6 @@ fn inspect(m: MqttMonitor, q: &[u8], claimed: bool) -> Inspected {
     }
     let msg = message(q, claim8(topic_len), claim16(payload_len));
     monitor::inspection::inspect(m, msg, upto(&topic, topic_len), upto(&payload, payload_len))
-}
-
-// A severity's number (002).
-fn severity_number(severity: AlertSeverity) -> u64 {
-    match severity {
-        AlertSeverity::Info => 0,
-        AlertSeverity::Low => 1,
-        AlertSeverity::Medium => 2,
-        AlertSeverity::High => 3,
-        AlertSeverity::Critical => 4,
-    }
 }
 
 // An alert.
