@@ -1,7 +1,6 @@
 // What a script may look at, to compare next states:
 //     state · rules · buckets · trackers · windows
 // Each live record of a table has a line of its own.
-use crate::parts::is;
 use crate::policies::say_action;
 use crate::policies::say_policy;
 use crate::say::say;
@@ -9,6 +8,7 @@ use crate::say::say_hex;
 use crate::say::say_number;
 use crate::say::say_place;
 use crate::say::say_unknown;
+use cut::args::is;
 use cut::upto;
 use monitor::state::MqttMonitor;
 use tables::buckets::RateBucket;

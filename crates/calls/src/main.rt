@@ -10,9 +10,9 @@ mod say;
 mod settings;
 mod state_calls;
 
-use crate::parts::arg;
 use crate::say::say;
 use cut::after;
+use cut::args::arg;
 use cut::before;
 use libc::STDIN_FILENO;
 use lines::value;

@@ -2,22 +2,22 @@
 //     inspect AT ok|bad TYPE QOS TOPIC SIZE PAYLOAD
 //     inspect_claimed AT ok|bad TYPE QOS TOPIC SIZE PAYLOAD CLAIMED CLAIMED
 // as a trace has it, or with claimed lengths that are not those of the lent topic and payload. Each alert has a line of its own.
-use crate::parts::arg;
-use crate::parts::is;
-use crate::parts::number;
 use crate::parts::number8;
 use crate::parts::number16;
-use crate::parts::unhex;
 use crate::policies::qos;
 use crate::say::say_hex;
 use crate::say::say_number;
 use crate::say::say_outcome;
 use crate::say::say_place;
 use crate::settings;
+use cut::args::arg;
+use cut::args::is;
+use cut::args::number;
+use cut::args::unhex;
 use cut::upto;
-use monitor::alerts::AlertSeverity;
 use monitor::alerts::MqttInspectResult;
 use monitor::alerts::SecurityAlert;
+use monitor::alerts::severity_number;
 use monitor::inspection::Inspected;
 use monitor::message::MqttMessage;
 use monitor::message::MqttPacketType;
@@ -70,9 +70,9 @@ fn message(q: &[u8], topic_len: u8, payload_inspectable_len: u16) -> MqttMessage
 // Inspects the message of a line.
 fn inspect(m: MqttMonitor, q: &[u8], claimed: bool) -> Inspected {
     let mut topic = [0u8; 128];
-    let topic_len = unhex(q, 5, &mut topic);
+    let topic_len = unhex(q, 5, &mut topic).count;
     let mut payload = [0u8; 256];
-    let payload_len = unhex(q, 7, &mut payload);
+    let payload_len = unhex(q, 7, &mut payload).count;
     if claimed {
         let msg = message(q, number8(q, 8), number16(q, 9));
         return monitor::inspection::inspect(
@@ -84,17 +84,6 @@ fn inspect(m: MqttMonitor, q: &[u8], claimed: bool) -> Inspected {
     }
     let msg = message(q, claim8(topic_len), claim16(payload_len));
     monitor::inspection::inspect(m, msg, upto(&topic, topic_len), upto(&payload, payload_len))
-}
-
-// A severity's number (002).
-fn severity_number(severity: AlertSeverity) -> u64 {
-    match severity {
-        AlertSeverity::Info => 0,
-        AlertSeverity::Low => 1,
-        AlertSeverity::Medium => 2,
-        AlertSeverity::High => 3,
-        AlertSeverity::Critical => 4,
-    }
 }
 
 // An alert.

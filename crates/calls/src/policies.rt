@@ -1,9 +1,9 @@
 // A rule's action and QoS policy, and a message's QoS, as the trace writes them.
-use crate::parts::arg;
-use crate::parts::is;
-use crate::parts::number;
 use crate::say::say;
 use crate::say::say_number;
+use cut::args::arg;
+use cut::args::is;
+use cut::args::number;
 use lines::value;
 use lines::value::Number;
 use tables::rules::MqttQoS;

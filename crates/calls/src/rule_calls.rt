@@ -1,14 +1,14 @@
 // Calls on the rules:
 //     add_rule PATTERN allow|block any|min0..|only2 RATE · remove_rule PLACE · swap_rules PLACE PLACE · clear_rules · validate_rules
-use crate::parts::is;
 use crate::parts::number16;
-use crate::parts::place;
-use crate::parts::unhex;
 use crate::policies::action;
 use crate::policies::policy;
 use crate::say::say_called;
 use crate::say::say_outcome;
 use crate::state_calls;
+use cut::args::is;
+use cut::args::place;
+use cut::args::unhex;
 use cut::upto;
 use monitor::rule_calls;
 use monitor::state::Called;
@@ -17,7 +17,7 @@ use monitor::state::MqttMonitor;
 // Patterns of up to 128 bytes can be asked for, as in a trace.
 fn add_rule(m: MqttMonitor, q: &[u8]) -> Called {
     let mut pattern = [0u8; 128];
-    let n = unhex(q, 1, &mut pattern);
+    let n = unhex(q, 1, &mut pattern).count;
     rule_calls::add_rule(
         m,
         upto(&pattern, n),

@@ -5,14 +5,14 @@
 //     tracker_prefix PLACE N · tracker_live PLACE 0|1 · mean PLACE N · samples PLACE N
 //     window_count PLACE N · window_next PLACE N
 use crate::looks;
-use crate::parts::flag;
-use crate::parts::is;
-use crate::parts::number;
 use crate::parts::number8;
 use crate::parts::number16;
 use crate::parts::number32;
-use crate::parts::place;
-use crate::parts::unhex;
+use cut::args::flag;
+use cut::args::is;
+use cut::args::number;
+use cut::args::place;
+use cut::args::unhex;
 use monitor::state::MqttMonitor;
 use tables::buckets::RateBucket;
 use tables::rules::TopicRule;
@@ -31,7 +31,7 @@ fn set_rule(rule: TopicRule, name: &[u8], q: &[u8]) -> TopicRule {
         return next;
     }
     let mut pattern = [0u8; 64];
-    let n = unhex(q, 2, &mut pattern);
+    let n = unhex(q, 2, &mut pattern).count;
     next.pattern = pattern;
     next.pattern_len = if n < 65 { n as u8 } else { 0 };
     next

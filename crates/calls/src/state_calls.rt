@@ -1,12 +1,12 @@
 // Constructors, counters, CONNECT settings, removals and reset:
 //     new · new_deny_default · counters · set_connect_storm_params THRESHOLD WINDOW · remove_rate_bucket TOPIC · remove_ewma_tracker TOPIC · reset_state
 use crate::messages;
-use crate::parts::is;
-use crate::parts::number;
 use crate::parts::number8;
-use crate::parts::unhex;
 use crate::say::say_called;
 use crate::say::say_number;
+use cut::args::is;
+use cut::args::number;
+use cut::args::unhex;
 use cut::upto;
 use monitor::calls;
 use monitor::state::Called;
@@ -22,7 +22,7 @@ fn say_counters(m: MqttMonitor) {
 // Removes a topic's bucket or tracker.
 fn remove(m: MqttMonitor, name: &[u8], q: &[u8]) -> Called {
     let mut topic = [0u8; 128];
-    let n = unhex(q, 1, &mut topic);
+    let n = unhex(q, 1, &mut topic).count;
     if is(name, b"remove_rate_bucket") {
         return calls::remove_rate_bucket(m, upto(&topic, n));
     }

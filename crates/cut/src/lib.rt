@@ -1,5 +1,8 @@
 // Parts of a text, for the programs that read questions: what stands before and after the first of a byte, and the first few bytes. With LF it takes a text apart into lines,
 // with a blank a line into fields. Every function answers for every text.
+pub mod args;
+pub mod swap;
+
 ghost use Prim.Native.Nat.{_+_, _-_, _≤_};
 ghost use mathlib.Core.Path.{_≡_};
 ghost use lib.ListN.{length, take, drop};

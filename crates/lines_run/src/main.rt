@@ -6,11 +6,11 @@ mod readers;
 mod say;
 mod writers;
 
-use crate::parts::arg;
 use crate::say::say;
-use crate::say::swap;
 use cut::after;
+use cut::args::arg;
 use cut::before;
+use cut::swap::swap;
 use cut::upto;
 use libc::STDIN_FILENO;
 use lines::put;
@@ -35,8 +35,8 @@ fn answer(line: &[u8]) {
     say(b" ->");
     let mut q = [0u8; 256];
     let n = put::put_bytes(&mut q, 0, line);
-    swap(&mut q, b';', b'\n');
-    swap(&mut q, b'~', b'\r');
+    swap(&mut q, n, b';', b'\n');
+    swap(&mut q, n, b'~', b'\r');
     ask(upto(&q, n));
 }
 

@@ -3,11 +3,6 @@
 //     line_at KEY AT [TEXT] · number_field KEY AT LOW HIGH [TEXT] · word_field KEY AT WORDS [TEXT] · hex_field KEY AT ROOM [TEXT] · text_end AT [TEXT]
 //     starts_with KEY [VALUE] · decimal LOW HIGH [VALUE] · word WORDS [VALUE] · hex ROOM [VALUE]
 // ROOM is the size of the buffer for the bytes, at most 8; it is written out after the read, and a `.` is a byte that stayed.
-use crate::parts::arg;
-use crate::parts::is;
-use crate::parts::number;
-use crate::parts::place;
-use crate::parts::size;
 use crate::parts::text;
 use crate::say::say;
 use crate::say::say_buffer;
@@ -15,6 +10,11 @@ use crate::say::say_field;
 use crate::say::say_flag;
 use crate::say::say_number;
 use crate::say::say_unknown;
+use cut::args::arg;
+use cut::args::is;
+use cut::args::number;
+use cut::args::place;
+use cut::args::size;
 use lines::held;
 use lines::held::Span;
 use lines::read;

@@ -1,4 +1,5 @@
 // What an answer is written with.
+use cut::swap::swap;
 use libc::STDOUT_FILENO;
 use lines::read::Field;
 
@@ -31,8 +32,9 @@ pub fn say_field(f: Field) {
 
 // A buffer, as a text is written in a question.
 pub fn say_buffer(s: &mut [u8]) {
-    swap(s, b'\n', b';');
-    swap(s, b'\r', b'~');
+    let all = s.len();
+    swap(s, all, b'\n', b';');
+    swap(s, all, b'\r', b'~');
     say(b" [");
     say(s);
     say(b"]");
@@ -41,18 +43,4 @@ pub fn say_buffer(s: &mut [u8]) {
 // A question that names no function.
 pub fn say_unknown() {
     say(b" not understood");
-}
-
-// Another byte for each `old`.
-pub fn swap(s: &mut [u8], old: u8, new: u8) {
-    let mut i = 0;
-    while i < s.len() {
-        s[i] = swapped(s[i], old, new);
-        i += 1;
-    }
-}
-
-// Another byte where it is `old`.
-fn swapped(b: u8, old: u8, new: u8) -> u8 {
-    if b == old { new } else { b }
 }

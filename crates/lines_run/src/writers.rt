@@ -3,17 +3,17 @@
 //     put_number_line SIZE AT KEY NUMBER · put_hex_line SIZE AT KEY [BYTES] · put_flag_line SIZE AT KEY 0|1 · put_word_line SIZE AT KEY WORDS PLACE
 // SIZE is that of the buffer, at most 64. It is written out after the write, and a `.` is a byte that stayed; `next` is the place that the writer hands back, and
 // `len` the length that `lengths` says beforehand, where it has a function for it.
-use crate::parts::arg;
-use crate::parts::flag;
-use crate::parts::is;
-use crate::parts::number;
-use crate::parts::place;
-use crate::parts::size;
 use crate::parts::text;
 use crate::parts::text_byte;
 use crate::say::say_buffer;
 use crate::say::say_number;
 use crate::say::say_unknown;
+use cut::args::arg;
+use cut::args::flag;
+use cut::args::is;
+use cut::args::number;
+use cut::args::place;
+use cut::args::size;
 use lines::lengths;
 use lines::put;
 

@@ -34,7 +34,7 @@ record Fair (g : Gate) : Type 0 where
   apart : g .broad ≡ true → g .feeds ≡ false
 
 -- what holds of both holds of either
-either : {A : Type 0} (P : A → Type 0) (c : Bool) {x y : A} → P x → P y → P (cond c x y)
+pub either : {A : Type 0} (P : A → Type 0) (c : Bool) {x y : A} → P x → P y → P (cond c x y)
 either P true p q = p
 either P false p q = q
 

@@ -14,10 +14,10 @@ use Rattle.tables.specs.declared.buckets.Spent.{Spent}
 use Rattle.tables.specs.declared.identity.Id.{Id}
 use Rattle.tables.proofs.BucketLaws.{Way, filled, taken, none, way, keeps}
 use Rattle.tables.proofs.LookupLaws.{live-first}
-use Rattle.tables.proofs.StepLaws.{bucketAt, stored, first, Absent, Step, hit, put, step}
+use Rattle.tables.proofs.StepLaws.{bucketAt, stored, first, Absent, Step, hit, put, step, each}
 use Rattle.monitor.specs.Sound.{sameId, SoundId, SoundBuckets}
 use Rattle.monitor.proofs.SoundIds.{sound-id, new-first, new-last}
-use Rattle.monitor.proofs.StoreLaws.{each, pairs}
+use Rattle.monitor.proofs.StoreLaws.{pairs}
 
 -- two buckets are not both live with one identity
 abbrev Apart : RateBucket → RateBucket → Type 0

@@ -21,9 +21,10 @@ use Rattle.tables.specs.declared.rules.TopicAction.{TopicAction}
 use Rattle.tables.specs.declared.rules.TopicRule.{TopicRule}
 use Rattle.tables.proofs.RuleLaws.{fine-says}
 use Rattle.tables.proofs.ScanLaws.{find-none}
+use Rattle.tables.proofs.StepLaws.{each}
 use Rattle.monitor.specs.Calls.{ruleOf, overwritten, without, exchanged}
 use Rattle.monitor.specs.Sound.{SoundRules}
-use Rattle.monitor.proofs.StoreLaws.{each, pairs}
+use Rattle.monitor.proofs.StoreLaws.{pairs}
 
 -- the rule at a place
 abbrev at : List TopicRule → ℕ → TopicRule

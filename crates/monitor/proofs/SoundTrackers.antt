@@ -14,9 +14,10 @@ use Rattle.tables.specs.declared.trackers.EwmaTracker.{EwmaTracker}
 use Rattle.tables.specs.declared.trackers.TrackerDecision.{TrackerDecision}
 use Rattle.tables.proofs.ScanLaws.{seat-lt}
 use Rattle.tables.proofs.TrackerLaws.{isFree, lastUpdate}
+use Rattle.tables.proofs.StepLaws.{each}
 use Rattle.monitor.specs.Sound.{sameId, SoundId, SoundTrackers}
 use Rattle.monitor.proofs.SoundIds.{sound-id, new-first, new-last}
-use Rattle.monitor.proofs.StoreLaws.{each, pairs, looked-up}
+use Rattle.monitor.proofs.StoreLaws.{pairs, looked-up}
 
 -- two trackers are not both live with one identity
 abbrev Apart : EwmaTracker → EwmaTracker → Type 0

@@ -18,8 +18,9 @@ use Rattle.tables.specs.declared.windows.ClientStormEntry.{ClientStormEntry}
 use Rattle.tables.specs.declared.windows.ConnectDecision.{ConnectDecision}
 use Rattle.tables.proofs.ScanLaws.{seat-lt}
 use Rattle.tables.proofs.WindowLaws.{isFree, lastSeen}
+use Rattle.tables.proofs.StepLaws.{each}
 use Rattle.monitor.specs.Sound.{sameClient, SoundWindows}
-use Rattle.monitor.proofs.StoreLaws.{each, pairs, looked-up}
+use Rattle.monitor.proofs.StoreLaws.{pairs, looked-up}
 
 -- two windows are not both live with one client
 abbrev Apart : ClientStormEntry → ClientStormEntry → Type 0

@@ -1,36 +1,29 @@
--- A table after a store, whatever its records are: a fact of every place, and a fact of every two places. `d` is what is read past the table's end. Then a record
+-- A table after a store, whatever its records are: a fact of every two places. `d` is what is read past the table's end. Then a record
 -- looked up: it is held at a place, or nowhere. Last, a store that is done only within a table's size. Assumes nothing.
 use mathlib.Core.Bool.{Bool, true, false}
 use mathlib.Core.List.{List}
 use mathlib.Core.Path.{_≡_}
 use Prim.Native.Nat.{ℕ, _<_}
 use native.Mathlib.Omega.{arith}
-use borrow.Author.Tests.{eqb-true, eqb-false, ltb-true, ltb-false}
-use lib.Dec.{eqb, ltb}
+use borrow.Author.Tests.{ltb-true, ltb-false}
+use lib.Dec.{ltb}
 use lib.ListN.{length, getD, set}
-use lib.Seq.{getD-set-same, getD-set-other}
 use Rattle.topics.proofs.ByteLaws.{by}
 use Rattle.tables.specs.Scan.{find}
 use Rattle.tables.proofs.LookupLaws.{heldOrNew}
 use Rattle.tables.proofs.ScanLaws.{find-lt, find-none}
+use Rattle.tables.proofs.StepLaws.{each}
 use Rattle.monitor.specs.Inspect.{storedAt}
 
 module _ {A : Type 0} (d : A) (T : List A) (k : ℕ) (x : A) (l : k < length T) where
-  -- it holds of the new record, and held of the others
-  pub each : (P : ℕ → A → Type 0) → P k x → ((j : ℕ) → (j ≡ k → ⊥) → P j (getD T j d)) → (j : ℕ) → P j (getD (set T k x) j d)
-  each P p q j =
-      by (eqb j k)
-      (λ e. let h : j ≡ k = eqb-true j k e in rw (h, getD-set-same T k x d l) p)
-      (λ e. let n : j ≡ k → ⊥ = eqb-false j k e in rw (getD-set-other T k j x d n) (q j n))
-
   -- it holds of the new record with each before it and each after it, and held of the others
   pub pairs : (R : A → A → Type 0) (n : ℕ) → ((i : ℕ) → i < k → k < n → R (getD T i d) x) → ((j : ℕ) → k < j → j < n → R x (getD T j d))
       → ((i j : ℕ) → (i ≡ k → ⊥) → (j ≡ k → ⊥) → i < j → j < n → R (getD T i d) (getD T j d))
       → (i j : ℕ) → i < j → j < n → R (getD (set T k x) i d) (getD (set T k x) j d)
   pairs R n before after rest i j =
-      each (λ i u. i < j → j < n → R u (getD (set T k x) j d))
-      (each (λ j v. k < j → j < n → R x v) (λ h m. absurd (omega arith)) (λ j e h m. after j h m) j)
-      (λ i f. each (λ j v. i < j → j < n → R (getD T i d) v) (λ h m. before i h m) (λ j e h m. rest i j f e h m) j)
+      each d T k x l (λ i u. i < j → j < n → R u (getD (set T k x) j d))
+      (each d T k x l (λ j v. k < j → j < n → R x v) (λ h m. absurd (omega arith)) (λ j e h m. after j h m) j)
+      (λ i f. each d T k x l (λ j v. i < j → j < n → R (getD T i d) v) (λ h m. before i h m) (λ j e h m. rest i j f e h m) j)
       i
 
 -- a record looked up by a test: `f` at the place of the first that passes, else `f` at a newcomer's place with the new record, where none passes

@@ -2,7 +2,7 @@
 ghost use mathlib.Core.List.{foldl};
 ghost use mathlib.Core.Path.{_≡_};
 ghost use lib.ListN.{replicate};
-ghost use Rattle.monitor.specs.Alerts.{severityOf, hashOf, when, kindsOf, idAfter, counted, alertOf, noAlert, noneRaised, raise, raiseAll};
+ghost use Rattle.monitor.specs.Alerts.{severityNumber, severityOf, hashOf, when, kindsOf, idAfter, counted, alertOf, noAlert, noneRaised, raise, raiseAll};
 
 pub enum AlertSeverity {
     Info,
@@ -42,6 +42,19 @@ pub struct Findings {
     pub qos: bool,
     pub denial: u32,
     pub anomaly: bool,
+}
+
+// A severity's number (002).
+pub fn severity_number(severity: AlertSeverity) -> u64
+    ensures { λ r. ⌜ r ≡ severityNumber severity ⌝ }
+{
+    match severity {
+        AlertSeverity::Info => 0,
+        AlertSeverity::Low => 1,
+        AlertSeverity::Medium => 2,
+        AlertSeverity::High => 3,
+        AlertSeverity::Critical => 4,
+    }
 }
 
 // By the kind alone: High are a CONNECT storm, a replaced bucket and a Publish with a zero, `+` or `#`; Low are QoS, payload and clock.

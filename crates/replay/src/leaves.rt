@@ -1,6 +1,5 @@
 // Questions on matching and hashes: a kind, one field in hex (two for `m`, the topic and the pattern), and the answer.
-use crate::fields::field;
-use crate::fields::unhex;
+use cut::args::unhex;
 use cut::upto;
 use lines::put;
 use topics::hashes;
@@ -44,7 +43,7 @@ fn put_answer(kind: u8, bytes: &[u8], out: &mut [u8]) -> usize {
 // The same for the fields of a question of one field.
 pub fn answer_one(kind: u8, fields: &[u8], out: &mut [u8]) -> usize {
     let mut bytes = [0u8; 512];
-    let got = unhex(field(fields, 0), &mut bytes);
+    let got = unhex(fields, 0, &mut bytes);
     if !got.good {
         return 0;
     }
@@ -54,12 +53,12 @@ pub fn answer_one(kind: u8, fields: &[u8], out: &mut [u8]) -> usize {
 // The same for the fields of an `m`.
 pub fn answer_match(fields: &[u8], out: &mut [u8]) -> usize {
     let mut topic = [0u8; 512];
-    let name = unhex(field(fields, 0), &mut topic);
+    let name = unhex(fields, 0, &mut topic);
     if !name.good {
         return 0;
     }
     let mut pattern = [0u8; 512];
-    let rule = unhex(field(fields, 1), &mut pattern);
+    let rule = unhex(fields, 1, &mut pattern);
     if !rule.good {
         return 0;
     }

@@ -1,16 +1,15 @@
 // Asks the port what the Rust original was asked, and compares. A line of standard input is one question with the answer recorded from the original (oracle/record): a
 // kind, fields with single blanks between, and the answer; `-` is a field with nothing. `leaves` has the questions on matching and hashes, `traces` those on whole
 // traces. The file `stdout` has what must come out: how many lines of each kind there are, so that none goes missing, and no line that differs.
-mod fields;
 mod leaves;
 mod say;
 mod traces;
 
-use crate::fields::rest;
 use crate::say::say_all;
 use crate::say::say_differs;
 use crate::say::say_unknown;
 use cut::after;
+use cut::args::rest;
 use cut::before;
 use cut::upto;
 use libc::STDIN_FILENO;

@@ -1,29 +1,16 @@
 // Whole traces. The first field is the trace's name, which only helps a reader; then comes its text, on one line with `;` for each LF. `h` has the text in hex, where it
 // holds bytes that a line cannot; `l` has a length, a beginning and a part that comes again and again up to that length; `o` has the room that is lent. The answer is
 // the lent bytes, `;` for each LF, up to the length that was handed back (for `o` all of the room, which was full of dots), and then number, line and length.
-use crate::fields::Bytes;
-use crate::fields::field;
-use crate::fields::is_none;
-use crate::fields::size;
-use crate::fields::unhex;
+use cut::args::Bytes;
+use cut::args::arg;
+use cut::args::field;
+use cut::args::size;
+use cut::args::unhex;
+use cut::swap::swap;
 use cut::upto;
 use lines::put;
 use trace::run;
 use trace::run::TraceEnd;
-
-// Another byte where it is `old`.
-fn swapped(b: u8, old: u8, new: u8) -> u8 {
-    if b == old { new } else { b }
-}
-
-// Another byte for each `old` among the first `n`.
-fn swap(s: &mut [u8], n: usize, old: u8, new: u8) {
-    let mut i = 0;
-    while i < n && i < s.len() {
-        s[i] = swapped(s[i], old, new);
-        i += 1;
-    }
-}
 
 // Each byte from `from` up to `to` becomes the one that stands `back` places before it.
 fn repeat(s: &mut [u8], from: usize, to: usize, back: usize) {
@@ -37,19 +24,11 @@ fn repeat(s: &mut [u8], from: usize, to: usize, back: usize) {
     }
 }
 
-// A field's bytes as they are, nothing for `-`.
-fn put_field(text: &mut [u8], at: usize, f: &[u8]) -> usize {
-    if is_none(f) {
-        return at;
-    }
-    put::put_bytes(text, at, f)
-}
-
 // The text of an `l`: its length, its beginning, its part.
 fn put_long(fields: &[u8], text: &mut [u8]) -> usize {
-    let n = size(field(fields, 1), text);
+    let n = size(fields, 1, text);
     let part = field(fields, 3);
-    let head = put_field(text, 0, field(fields, 2));
+    let head = put::put_bytes(text, 0, arg(fields, 2));
     let once = put::put_bytes(text, head, part);
     repeat(text, once, n, part.len());
     n
@@ -59,15 +38,15 @@ fn put_long(fields: &[u8], text: &mut [u8]) -> usize {
 fn put_spelled(kind: u8, fields: &[u8], text: &mut [u8]) -> usize {
     match kind {
         b'l' => put_long(fields, text),
-        b'o' => put_field(text, 0, field(fields, 2)),
-        _ => put_field(text, 0, field(fields, 1)),
+        b'o' => put::put_bytes(text, 0, arg(fields, 2)),
+        _ => put::put_bytes(text, 0, arg(fields, 1)),
     }
 }
 
 // The text of any question, to the beginning of `text`.
 fn put_text(kind: u8, fields: &[u8], text: &mut [u8]) -> Bytes {
     if kind == b'h' {
-        return unhex(field(fields, 1), text);
+        return unhex(fields, 1, text);
     }
     let count = put_spelled(kind, fields, text);
     swap(text, count, b';', b'\n');
@@ -102,9 +81,9 @@ fn put_dots(out: &mut [u8]) {
 }
 
 // What the port says to a text in a room of so many bytes, all of which are shown.
-fn answer_in_room(text: &[u8], f: &[u8], out: &mut [u8]) -> usize {
+fn answer_in_room(text: &[u8], fields: &[u8], out: &mut [u8]) -> usize {
     put_dots(out);
-    let room = size(f, out);
+    let room = size(fields, 1, out);
     let end = run::run_trace(text, &mut out[..room]);
     put_end(out, room, end)
 }
@@ -116,7 +95,7 @@ pub fn answer(kind: u8, fields: &[u8], text: &mut [u8], out: &mut [u8]) -> usize
         return 0;
     }
     if kind == b'o' {
-        return answer_in_room(upto(text, got.count), field(fields, 1), out);
+        return answer_in_room(upto(text, got.count), fields, out);
     }
     answer_text(upto(text, got.count), out)
 }

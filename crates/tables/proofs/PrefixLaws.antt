@@ -20,18 +20,19 @@ take-like l m n e =
     (λ h. take-all m l (leb-true _ _ h) ∙ sym (take-all n l (omega (arith, leb-true (length l) m h))))
     (λ h. let k : m ≡ n = omega (arith, leb-false (length l) m h) in rw k)
 
-module _ (t : List ℕ) (i : ℕ) where
-  pub prefix-more : i < length t → i < 32 → set (take i t ++ replicate (32 - i) 0) i (getD t i 0) ≡ take (i + 1) t ++ replicate (32 - (i + 1)) 0
-  prefix-more h k =
-      let e : 32 - i ≡ suc (32 - (i + 1)) = omega arith in
-      rw (e, set-at (take i t) 0 (replicate (32 - (i + 1)) 0) (getD t i 0) i (length-take-le i t (omega arith)))
-      (let m : take (i + 1) t ≡ take i t ++ (getD t i 0 ∷ []) = rw (add-one) (take-suc t i 0 h) in
-      rw m (sym (append-snoc (take i t) (getD t i 0) (replicate (32 - (i + 1)) 0))))
+-- bytes with zeros after them up to a size: one byte more
+pub padded-more : (size : ℕ) (p : List ℕ) (i : ℕ) → i < length p → i < size → set (take i p ++ replicate (size - i) 0) i (getD p i 0) ≡ take (i + 1) p ++ replicate (size - (i + 1)) 0
+padded-more size p i h k =
+    let e : size - i ≡ suc (size - (i + 1)) = omega arith in
+    let more : take (i + 1) p ≡ take i p ++ (getD p i 0 ∷ []) = rw (add-one) (take-suc p i 0 h) in
+    rw (e, set-at (take i p) 0 (replicate (size - (i + 1)) 0) (getD p i 0) i (length-take-le i p (omega arith)))
+    (rw more (sym (append-snoc (take i p) (getD p i 0) (replicate (size - (i + 1)) 0))))
 
-  pub prefix-done : i ≡ min (length t) 32 → take i t ++ replicate (32 - i) 0 ≡ prefixOf t
-  unfolding prefixOf
-  prefix-done h =
-      let e : 32 - i ≡ 32 - length t = omega arith in rw (e, take-like t i 32 (omega arith))
+-- all that an identity keeps
+pub prefix-done : (t : List ℕ) (i : ℕ) → i ≡ min (length t) 32 → take i t ++ replicate (32 - i) 0 ≡ prefixOf t
+unfolding prefixOf
+prefix-done t i h =
+    let e : 32 - i ≡ 32 - length t = omega arith in rw (e, take-like t i 32 (omega arith))
 
 -- the bytes of two prefixes by which they are compared, cut at 32 or not
 pub same-cut : (a b : List ℕ) (n : ℕ) {k : ℕ} → length a ≡ 32 → length b ≡ 32 → k ≡ min n 32 → same (take k a) (take k b) ≡ same (take n a) (take n b)

@@ -121,10 +121,10 @@ pub expired : (b : RateBucket) (t : ℕ) → isExpired b t ≡ true → timeOf b
 unfolding isExpired
 expired b t e = omega (arith, ltb-true 300000000 (t - timeOf b) e)
 
--- a fact of every place after a store: it holds of the new bucket, and held of the others
-module _ (T : List RateBucket) (i : ℕ) (b : RateBucket) (l : i < length T) where
-  pub each : (P : ℕ → RateBucket → Type 0) → P i b → ((j : ℕ) → (j ≡ i → ⊥) → P j (bucketAt T j)) → (j : ℕ) → P j (bucketAt (set T i b) j)
+-- a fact of every place after a store, whatever the table's records are: it holds of the new one, and held of the others; `d` is what is read past the end
+module _ {A : Type 0} (d : A) (T : List A) (i : ℕ) (x : A) (l : i < length T) where
+  pub each : (P : ℕ → A → Type 0) → P i x → ((j : ℕ) → (j ≡ i → ⊥) → P j (getD T j d)) → (j : ℕ) → P j (getD (set T i x) j d)
   each P p q j =
       by (eqb j i)
-      (λ e. let k : j ≡ i = eqb-true j i e in rw (k, getD-set-same T i b noBucket l) p)
-      (λ e. let n : j ≡ i → ⊥ = eqb-false j i e in rw (getD-set-other T i j b noBucket n) (q j n))
+      (λ e. let k : j ≡ i = eqb-true j i e in rw (k, getD-set-same T i x d l) p)
+      (λ e. let n : j ≡ i → ⊥ = eqb-false j i e in rw (getD-set-other T i j x d n) (q j n))

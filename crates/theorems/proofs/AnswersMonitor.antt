@@ -1,6 +1,8 @@
 -- One answer for every public function of `monitor`, and nothing asked of its caller (specs/One.antt). Assumes nothing.
 use mathlib.Core.Path.{sym, _∙_}
 use Rattle.theorems.specs.One.{Any, One}
+use Rattle.monitor.proofs.alerts.severity_number as alerts-severity-number
+use Rattle.monitor.proofs.alerts.severity_number.Reads as alerts-severity-number-reads
 use Rattle.monitor.proofs.alerts.severity_of as alerts-severity-of
 use Rattle.monitor.proofs.alerts.severity_of.Reads as alerts-severity-of-reads
 use Rattle.monitor.proofs.alerts.count_on as alerts-count-on
@@ -59,6 +61,12 @@ use Rattle.monitor.proofs.state.free_rules as state-free-rules
 use Rattle.monitor.proofs.state.free_rules.Reads as state-free-rules-reads
 use Rattle.monitor.proofs.state.well_formed as state-well-formed
 use Rattle.monitor.proofs.state.well_formed.Reads as state-well-formed-reads
+
+pub one-alerts-severity-number : One alerts-severity-number.ended alerts-severity-number-reads.Post
+one-alerts-severity-number κs a x y e f p q = p ∙ sym q
+
+pub any-alerts-severity-number : Any alerts-severity-number.ended alerts-severity-number-reads.Asked
+any-alerts-severity-number κs a = tt
 
 pub one-alerts-severity-of : One alerts-severity-of.ended alerts-severity-of-reads.Post
 one-alerts-severity-of κs a x y e f p q = p ∙ sym q

@@ -58,14 +58,14 @@ module _ {x : Id} {R : ℕ} {T : List RateBucket} where
 module _ (x : Id) (T : List RateBucket) (k : ℕ) (c : RateBucket) (q : k < length T) where
   -- a bucket of another, where the identity has none
   still-absent : holdsBucket x c ≡ false → ((j : ℕ) → (j ≡ k → ⊥) → holdsBucket x (bucketAt T j) ≡ false) → Absent x (set T k c)
-  still-absent nc away = record { none = each T k c q (λ j d. holdsBucket x d ≡ false) nc away }
+  still-absent nc away = record { none = each noBucket T k c q (λ j d. holdsBucket x d ≡ false) nc away }
 
   -- the identity's one bucket
   place : {R : ℕ} (t u B : ℕ) → holdsBucket x c ≡ true → ((j : ℕ) → (j ≡ k → ⊥) → holdsBucket x (bucketAt T j) ≡ false)
       → Good R t c → u + level c ≤ B + R * c .«last_refill_us» → Inv x R (set T k c) t u B
   place t u B m away g h =
       held k c (rw length-set q) (getD-set-same T k c noBucket q) m
-      (each T k c q (λ j d. holdsBucket x d ≡ true → j ≡ k) (λ _. refl) (λ j z p. clash p (away j z))) g (inl h)
+      (each noBucket T k c q (λ j d. holdsBucket x d ≡ true → j ≡ k) (λ _. refl) (λ j z p. clash p (away j z))) g (inl h)
 
   -- a bucket of another, beside the identity's
   beside : {R now t u B : ℕ} (i : ℕ) (b : RateBucket) → i < length T → bucketAt T i ≡ b → holdsBucket x b ≡ true
@@ -73,14 +73,14 @@ module _ (x : Id) (T : List RateBucket) (k : ℕ) (c : RateBucket) (q : k < leng
       → (u + level b ≤ B + R * b .«last_refill_us») ⊎ (u + 1000000 * R ≤ B + R * now) → Inv x R (set T k c) t u B
   beside {R} i b l e m only g h nc ne p =
       held i b (rw length-set l) (getD-set-other T k i c noBucket (λ z. ne (sym z)) ∙ e) m
-      (each T k c q (λ j d. holdsBucket x d ≡ true → j ≡ i) (λ z. clash z nc) (λ j _. only j)) (wait g h)
+      (each noBucket T k c q (λ j d. holdsBucket x d ≡ true → j ≡ i) (λ z. clash z nc) (λ j _. only j)) (wait g h)
       (⊎-elim (λ a. inl a) (λ a. inr (omega (arith, mul-le-mul-left R h))) p)
 
   still-gone : {R t u B : ℕ} (F : ℕ) → Absent x (set T k c) → F ≤ t → ((j : ℕ) → j < length T → bucketAt T j .active ≡ true) → ((j : ℕ) → j < length T → F ≤ timeAt T j)
       → c .active ≡ true → F ≤ c .«last_refill_us» → u ≤ B + R * F → Inv x R (set T k c) t u B
   still-gone F a f live low on late p =
-      gone F a f (rw length-set (each T k c q (λ j d. j < length T → d .active ≡ true) (λ _. on) (λ j _. live j)))
-      (rw length-set (each T k c q (λ j d. j < length T → F ≤ d .«last_refill_us») (λ _. late) (λ j _. low j))) p
+      gone F a f (rw length-set (each noBucket T k c q (λ j d. j < length T → d .active ≡ true) (λ _. on) (λ j _. live j)))
+      (rw length-set (each noBucket T k c q (λ j d. j < length T → F ≤ d .«last_refill_us») (λ _. late) (λ j _. low j))) p
 
 -- an identity that comes back after it was replaced: an expired place is more than 300 seconds older than now
 back : (R t F : ℕ) (b : RateBucket) (ok : Bool) (u B : ℕ) → u ≤ B + R * F → F ≤ b .«last_refill_us» → F ≤ t → (ok ≡ true → isExpired b t ≡ true)

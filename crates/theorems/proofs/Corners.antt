@@ -9,10 +9,10 @@ use Rattle.tables.specs.Identity.{prefixOf, idOf, isOf}
 use Rattle.tables.specs.Scan.{find, leastOf, seat}
 use Rattle.tables.specs.Trackers.{meanAfter, isAnomaly, fed, holdsTracker, feed}
 use Rattle.tables.specs.Windows.{recorded, countFrom, inWindow, holdsClient, connect}
-use Rattle.theorems.specs.Corners.{Corners, bytes, allowedAt, deniedAt, alertsOf}
+use Rattle.theorems.specs.Corners.{Corners, allowedAt, deniedAt, alertsOf}
 
 pub corners : Corners
-unfolding bytes matchBytes fromSlash takesNone takesEnd matchLevels firstLevel restLevels same has standardRule standardMatches wellPlaced countOf patternRefusal fnv1a djb2 suffixHash clientHashes prefixOf idOf isOf find leastOf seat refilled spend isExpired holdsBucket newcomer decide recorded countFrom inWindow holdsClient connect meanAfter isAnomaly fed holdsTracker feed allowedAt deniedAt alertsOf
+unfolding matchBytes fromSlash takesNone takesEnd matchLevels firstLevel restLevels same has standardRule standardMatches wellPlaced countOf patternRefusal fnv1a djb2 suffixHash clientHashes prefixOf idOf isOf find leastOf seat refilled spend isExpired holdsBucket newcomer decide recorded countFrom inWindow holdsClient connect meanAfter isAnomaly fed holdsTracker feed allowedAt deniedAt alertsOf
 corners =
     record {
       p1 = refl;

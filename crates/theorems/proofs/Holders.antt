@@ -5,7 +5,7 @@ use mathlib.Core.List.{List}
 use mathlib.Core.Path.{_≡_, refl, sym, _∙_}
 use Prim.Native.Nat.{ℕ}
 use Rattle.topics.proofs.BoolLaws.{both}
-use Rattle.tables.specs.Buckets.{holdsBucket, spend, made}
+use Rattle.tables.specs.Buckets.{noBucket, holdsBucket, spend, made}
 use Rattle.tables.specs.Identity.{isOf}
 use Rattle.tables.specs.declared.identity.Id.{Id}
 use Rattle.tables.specs.declared.buckets.RateBucket.{RateBucket}
@@ -65,14 +65,14 @@ module _ {T : List RateBucket} (n : Named T) (x : Id) {y : Id} (o : OfTopic y) w
   -- another's message does not bring it in
   pub absent-other : {rate t : ℕ} {T′ : List RateBucket} {ok : Bool} → isOf x y ≡ false → Absent x T → Step T y rate t T′ ok → Absent x T′
   absent-other {t = t} e a (hit i l h) =
-      record { none = each T i (spend (bucketAt T i) t .bucket) l (λ j b. holdsBucket x b ≡ false) (same-holder x (bucketAt T i) t ∙ a .none i) (λ j _. a .none j) }
+      record { none = each noBucket T i (spend (bucketAt T i) t .bucket) l (λ j b. holdsBucket x b ≡ false) (same-holder x (bucketAt T i) t ∙ a .none i) (λ j _. a .none j) }
   absent-other {rate} {t} e a (put i ok l v s) =
-      record { none = each T i (made y rate (first ok rate) t) l (λ j b. holdsBucket x b ≡ false) (made-holder x y rate (first ok rate) t ∙ e) (λ j _. a .none j) }
+      record { none = each noBucket T i (made y rate (first ok rate) t) l (λ j b. holdsBucket x b ≡ false) (made-holder x y rate (first ok rate) t ∙ e) (λ j _. a .none j) }
 
 -- messages keep it so
 pub names : {T : List RateBucket} → Named T → {y : Id} → OfTopic y → {rate t : ℕ} {T′ : List RateBucket} {ok : Bool} → Step T y rate t T′ ok → Named T′
 names {T} n o {rate} {t} (hit i l h) =
     let k = keeps (bucketAt T i) t in
-    record { name = each T i (spend (bucketAt T i) t .bucket) l (λ j b. b .active ≡ true → OfTopic (b .id)) (λ a. rw (k .id) (n .name i (sym (k .live) ∙ a))) (λ j _. n .name j) }
+    record { name = each noBucket T i (spend (bucketAt T i) t .bucket) l (λ j b. b .active ≡ true → OfTopic (b .id)) (λ a. rw (k .id) (n .name i (sym (k .live) ∙ a))) (λ j _. n .name j) }
 names {T} n o (put i ok l a s) =
-    record { name = each T i _ l (λ j b. b .active ≡ true → OfTopic (b .id)) (λ _. o) (λ j _. n .name j) }
+    record { name = each noBucket T i _ l (λ j b. b .active ≡ true → OfTopic (b .id)) (λ _. o) (λ j _. n .name j) }

@@ -108,7 +108,7 @@ room {T} {l = l} {y = y} {t = t} n o s h (hit i q w) =
           record {
             there = learns o k (stored-present T i c q y (same-holder y (bucketAt T i) t ∙ w)) s;
             vacant =
-                each T i c q (λ j d. length (noted y l) ≤ j → d .active ≡ false)
+                each noBucket T i c q (λ j d. length (noted y l) ≤ j → d .active ≡ false)
                 (λ g. clash (held-live y (bucketAt T i) w) (s .vacant i (omega arith))) (λ j _ g. s .vacant j (omega arith));
           };
       still = k;
@@ -122,7 +122,7 @@ room {T} {l = l} {y = y} {rate} {t} n o s h (put i ok q a seat) =
       seats =
           record {
             there = learns o k (stored-present T i c q y (made-holder y y rate (first ok rate) t ∙ is-of-refl y)) s;
-            vacant = each T i c q (λ j d. length (noted y l) ≤ j → d .active ≡ false) (λ g. absurd (omega (arith, f .low))) (λ j _ g. s .vacant j (omega arith));
+            vacant = each noBucket T i c q (λ j d. length (noted y l) ≤ j → d .active ≡ false) (λ g. absurd (omega (arith, f .low))) (λ j _ g. s .vacant j (omega arith));
           };
       still = k;
     }
@@ -139,7 +139,7 @@ known-set : {x : Id} {R s t : ℕ} (T : List RateBucket) (i : ℕ) (c : RateBuck
 known-set {x} {R} {s} {t} T i c q h k f =
     record {
       knows =
-          each T i c q (λ j d. holdsBucket x d ≡ true → (d .capacity ≡ R) × (d .«last_refill_us» ≤ t)) f
+          each noBucket T i c q (λ j d. holdsBucket x d ≡ true → (d .capacity ≡ R) × (d .«last_refill_us» ≤ t)) f
           (λ j _ e. (k .knows j e .0, omega (arith, k .knows j e .1)));
     }
 

@@ -6,6 +6,7 @@ use mathlib.Core.List.{List, [], _∷_, _++_}
 use Prim.Native.Nat.{ℕ, _+_, _≤_, _<_}
 use native.Mathlib.Omega.{arith}
 use lib.ListN.{length}
+use Rattle.lines.specs.Bytes.{bytes}
 use Rattle.topics.specs.Hashes.{fnv1a, djb2, suffixHash}
 use Rattle.topics.specs.Levels.{firstLevel, restLevels, same, has}
 use Rattle.topics.specs.Matching.{matchLevels, fromSlash, takesNone, takesEnd, matchBytes, standardRule, portMatches, standardMatches}
@@ -40,7 +41,6 @@ use Rattle.trace.specs.Groups.{openingOf, opening1, opening2}
 use Rattle.trace.specs.Record.{closingText}
 use Rattle.trace.specs.Trace.{loadedFrom, loaded, messagesOf, textFrom, traceText, traceEnd}
 use Rattle.trace.specs.declared.run.TraceEnd.{TraceEnd}
-use Rattle.theorems.specs.Corners.{bytes}
 use Rattle.theorems.specs.Run.{Matcher, InOrder, single, later, OneRate, done, next, rateOf, reaches, allowedOf, isAmong, arrived}
 use Rattle.theorems.specs.ShutOut.{Monitor, passes, afterBy, passedBy, UpperBy, LowerBy, Meets, ShutOut}
 use Rattle.theorems.specs.Tight.{hub, publish}
@@ -64,7 +64,7 @@ record Facts : Type 0 where
   quiet : answer portMatches (hub 2) message .result .«alert_count» ≡ 0
 
 facts : Facts
-unfolding bytes matchBytes fromSlash takesNone takesEnd firstLevel restLevels same has wellPlaced countOf patternRefusal fnv1a djb2 suffixHash prefixOf idOf isOf find leastOf refilled spend isExpired holdsBucket newcomer decide qosOk ruleFine equalRule firstRule covered shadowedAfter severityOf hashOf kindsOf raise raiseAll fresh rulePlan addRule rulingOf gateAfter gateOf applied inspectRefusal inspectWith seenOf spentOf fedOf denialOf planFrom planOf every wellFormed rateOf reaches hub publish isAmong arrived
+unfolding matchBytes fromSlash takesNone takesEnd firstLevel restLevels same has wellPlaced countOf patternRefusal fnv1a djb2 suffixHash prefixOf idOf isOf find leastOf refilled spend isExpired holdsBucket newcomer decide qosOk ruleFine equalRule firstRule covered shadowedAfter severityOf hashOf kindsOf raise raiseAll fresh rulePlan addRule rulingOf gateAfter gateOf applied inspectRefusal inspectWith seenOf spentOf fedOf denialOf planFrom planOf every wellFormed rateOf reaches hub publish isAmong arrived
 facts =
     record {
       reached = refl;
@@ -148,7 +148,7 @@ record Replies : Type 0 where
   no-standard : isYes (standardMatches (bytes "b") (bytes "a")) ≡ false
 
 replies : Replies
-unfolding bytes matchBytes fromSlash takesNone takesEnd firstLevel restLevels same has wellPlaced countOf patternRefusal matchLevels standardRule standardMatches
+unfolding matchBytes fromSlash takesNone takesEnd firstLevel restLevels same has wellPlaced countOf patternRefusal matchLevels standardRule standardMatches
 replies = record { yes = refl; no = refl; yes-standard = refl; no-standard = refl }
 
 one-reply : (g : Matcher) → ((t p : List ℕ) → g t p ≡ portMatches t p) → (b : Bool) → ¬ ((t p : List ℕ) → g t p ≡ b)
@@ -178,7 +178,7 @@ count (Done n) = n
 count (Refused n) = 0
 
 shadows : (validateRules (hub 2) ≡ Done 0) × (validateRules shadowed ≡ Done 1)
-unfolding bytes matchBytes fromSlash takesNone takesEnd firstLevel restLevels same has wellPlaced countOf patternRefusal fnv1a djb2 suffixHash prefixOf idOf isOf find leastOf refilled spend isExpired holdsBucket newcomer decide qosOk ruleFine equalRule firstRule covered shadowedAfter severityOf hashOf kindsOf raise raiseAll fresh rulePlan addRule rulingOf gateAfter gateOf applied inspectRefusal inspectWith seenOf spentOf fedOf denialOf planFrom planOf every wellFormed rateOf reaches hub publish validateRules
+unfolding matchBytes fromSlash takesNone takesEnd firstLevel restLevels same has wellPlaced countOf patternRefusal fnv1a djb2 suffixHash prefixOf idOf isOf find leastOf refilled spend isExpired holdsBucket newcomer decide qosOk ruleFine equalRule firstRule covered shadowedAfter severityOf hashOf kindsOf raise raiseAll fresh rulePlan addRule rulingOf gateAfter gateOf applied inspectRefusal inspectWith seenOf spentOf fedOf denialOf planFrom planOf every wellFormed rateOf reaches hub publish validateRules
 shadows = (refl, refl)
 
 invented-shadow : (v : MqttMonitor → Outcome) → ((m : MqttMonitor) → v m ≡ validateRules m) → (n : ℕ) → ¬ ((m : MqttMonitor) → v m ≡ Done n)
@@ -189,7 +189,7 @@ invented-shadow v meets n h =
 
 -- an empty trace is refused at its first line, and one with that line alone at its second
 lines-read : (traceEnd 200 [] .line ≡ 1) × (traceEnd 200 (bytes "default=allow" ++ 10 ∷ []) .line ≡ 2)
-unfolding bytes fresh spanOf placeOf toByte firstWord restWords begins isWord wordOf wordIndex keyed lineAt answered wordField numberField decimal decimalIn numberLine openingOf opening1 opening2 closingText loadedFrom loaded messagesOf textFrom traceText traceEnd
+unfolding fresh spanOf placeOf toByte firstWord restWords begins isWord wordOf wordIndex keyed lineAt answered wordField numberField decimal decimalIn numberLine openingOf opening1 opening2 closingText loadedFrom loaded messagesOf textFrom traceText traceEnd
 lines-read = (refl, refl)
 
 invented-line : (g : ℕ → List ℕ → TraceEnd) → ((room : ℕ) (text : List ℕ) → g room text ≡ traceEnd room text) → (n : ℕ) → ¬ ((room : ℕ) (text : List ℕ) → g room text .line ≡ n)

@@ -14,12 +14,11 @@ use Rattle.monitor.specs.Gate.{rulingOf, gateAfter, gateOf}
 use Rattle.monitor.specs.Inspect.{applied, inspectRefusal, inspectWith}
 use Rattle.monitor.specs.Plan.{seenOf, spentOf, fedOf, denialOf, planFrom, planOf}
 use Rattle.monitor.specs.State.{every, wellFormed}
-use Rattle.theorems.specs.Corners.{bytes}
 use Rattle.monitor.specs.Runs.{after}
 use Rattle.theorems.specs.Run.{rateOf, reaches, allowedOf}
 use Rattle.theorems.specs.Slips.{Slips}
 use Rattle.theorems.specs.Tight.{hub, publish, crowd}
 
 pub slips : Slips
-unfolding bytes matchBytes fromSlash takesNone takesEnd firstLevel restLevels same has wellPlaced countOf patternRefusal fnv1a djb2 suffixHash prefixOf idOf isOf find leastOf refilled spend isExpired holdsBucket newcomer decide qosOk ruleFine equalRule firstRule covered shadowedAfter severityOf hashOf kindsOf raise raiseAll fresh rulePlan addRule rulingOf gateAfter gateOf applied inspectRefusal inspectWith seenOf spentOf fedOf denialOf planFrom planOf every wellFormed after rateOf reaches allowedOf hub publish crowd
+unfolding matchBytes fromSlash takesNone takesEnd firstLevel restLevels same has wellPlaced countOf patternRefusal fnv1a djb2 suffixHash prefixOf idOf isOf find leastOf refilled spend isExpired holdsBucket newcomer decide qosOk ruleFine equalRule firstRule covered shadowedAfter severityOf hashOf kindsOf raise raiseAll fresh rulePlan addRule rulingOf gateAfter gateOf applied inspectRefusal inspectWith seenOf spentOf fedOf denialOf planFrom planOf every wellFormed after rateOf reaches allowedOf hub publish crowd
 slips = record { replaced = refl; expired = refl; capped = refl }

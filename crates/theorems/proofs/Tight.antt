@@ -2,6 +2,7 @@
 use mathlib.Core.Path.{refl}
 use Prim.Native.Nat.{ℕ, _≤_}
 use native.Mathlib.Omega.{arith}
+use Rattle.lines.specs.Bytes.{bytes}
 use Rattle.topics.specs.Hashes.{fnv1a, djb2, suffixHash}
 use Rattle.topics.specs.Levels.{firstLevel, restLevels, same, has}
 use Rattle.topics.specs.Matching.{fromSlash, takesNone, takesEnd, matchBytes}
@@ -18,7 +19,6 @@ use Rattle.monitor.specs.Gate.{rulingOf, gateAfter, gateOf}
 use Rattle.monitor.specs.Inspect.{applied, inspectRefusal, inspectWith}
 use Rattle.monitor.specs.Plan.{seenOf, spentOf, fedOf, denialOf, planFrom, planOf}
 use Rattle.monitor.specs.State.{every, wellFormed}
-use Rattle.theorems.specs.Corners.{bytes}
 use Rattle.monitor.specs.Runs.{after}
 use Rattle.theorems.specs.Run.{Prepared, made, rule, InOrder, single, later, done, next, rateOf, reaches, allowedOf, isAmong, arrived}
 use Rattle.theorems.specs.Tight.{hub, publish, busy, Met, crowd, Night}
@@ -36,7 +36,7 @@ busy-in-order =
     later a (later b (later c (single (publish (bytes "m/a") 1000000))))
 
 pub tight : Met × Night
-unfolding bytes matchBytes fromSlash takesNone takesEnd firstLevel restLevels same has wellPlaced countOf patternRefusal fnv1a djb2 suffixHash prefixOf idOf isOf find leastOf refilled spend isExpired holdsBucket newcomer decide qosOk ruleFine equalRule firstRule covered shadowedAfter severityOf hashOf kindsOf raise raiseAll fresh rulePlan addRule rulingOf gateAfter gateOf applied inspectRefusal inspectWith seenOf spentOf fedOf denialOf planFrom planOf every wellFormed after rateOf reaches allowedOf isAmong arrived hub publish busy crowd
+unfolding matchBytes fromSlash takesNone takesEnd firstLevel restLevels same has wellPlaced countOf patternRefusal fnv1a djb2 suffixHash prefixOf idOf isOf find leastOf refilled spend isExpired holdsBucket newcomer decide qosOk ruleFine equalRule firstRule covered shadowedAfter severityOf hashOf kindsOf raise raiseAll fresh rulePlan addRule rulingOf gateAfter gateOf applied inspectRefusal inspectWith seenOf spentOf fedOf denialOf planFrom planOf every wellFormed after rateOf reaches allowedOf isAmong arrived hub publish busy crowd
 tight = (
   record { prepared = hub-prepared 2; in-order = busy-in-order; one-rate = next (λ _. refl) (next (λ _. refl) (next (λ _. refl) (next (λ _. refl) done))); exactly = refl },
   record { identities = refl; denied = (refl, refl, refl); allowed = (refl, refl) },

@@ -3,11 +3,11 @@
 use mathlib.Core.Path.{_≡_}
 use mathlib.Core.Bool.{Bool, true, false}
 use mathlib.Core.List.{List, [], _∷_, _++_}
-use Prim.Native.Char.{code}
 use Prim.Native.Nat.{ℕ}
 use Prim.Native.String.{String}
 use lib.Dec.{eqb}
 use lib.ListN.{drop, replicate}
+use Rattle.lines.specs.Bytes.{bytes}
 use Rattle.topics.specs.Hashes.{fnv1a, djb2, clientHashes}
 use Rattle.topics.specs.Matching.{portMatches, standardMatches}
 use Rattle.topics.specs.Patterns.{patternRefusal}
@@ -22,11 +22,6 @@ use Rattle.tables.specs.declared.trackers.EwmaTracker.{EwmaTracker}
 use Rattle.tables.specs.declared.windows.ClientStormEntry.{ClientStormEntry}
 use Rattle.monitor.specs.Inspect.{storedAt}
 use Rattle.monitor.specs.Plan.{limiterKind}
-
--- the bytes of a text of plain characters
-unfoldable pub bytes : String → List ℕ
-bytes String.[] = []
-bytes (String._∷_ c s) = code c ∷ bytes s
 
 -- the port's answer for a pattern and a topic
 abbrev pub port : String → String → Bool

@@ -4,9 +4,9 @@
 use mathlib.Core.Path.{_≡_}
 use mathlib.Core.List.{List, [], _∷_, _++_}
 use Prim.Native.Nat.{ℕ}
+use Rattle.lines.specs.Bytes.{bytes}
 use Rattle.topics.specs.Matching.{portMatches}
 use Rattle.tables.specs.Identity.{idOf}
-use Rattle.theorems.specs.Corners.{bytes}
 use Rattle.monitor.specs.Runs.{Call, after}
 use Rattle.theorems.specs.Run.{allowedOf}
 use Rattle.theorems.specs.Tight.{hub, publish, device, crowd}

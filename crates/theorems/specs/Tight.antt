@@ -6,6 +6,7 @@ use mathlib.Core.Bool.{true, false}
 use mathlib.Core.List.{List, [], _∷_, _++_}
 use Prim.Native.Nat.{ℕ, zero, suc, _+_, _-_, _*_, _/_}
 use lib.ListN.{length, getD}
+use Rattle.lines.specs.Bytes.{bytes}
 use Rattle.topics.specs.Matching.{portMatches}
 use Rattle.tables.specs.Identity.{idOf}
 use Rattle.tables.specs.declared.rules.MqttQoS.the-variants.{AtMostOnce}
@@ -16,7 +17,6 @@ use Rattle.monitor.specs.Calls.{fresh, addRule}
 use Rattle.monitor.specs.declared.alerts.MqttInspectResult.{MqttInspectResult}
 use Rattle.monitor.specs.declared.message.MqttPacketType.the-variants.{Publish}
 use Rattle.monitor.specs.declared.state.MqttMonitor.{MqttMonitor}
-use Rattle.theorems.specs.Corners.{bytes}
 use Rattle.monitor.specs.Runs.{Call, answer, after}
 use Rattle.theorems.specs.Run.{Prepared, InOrder, OneRate, allowedOf, arrived}
 

@@ -74,12 +74,6 @@ unfoldable pub standardMatches : List ℕ → List ℕ → StandardMatch
 standardMatches name pattern =
     cond (eqb (patternRefusal pattern) 0 && not (none name)) (cond (standardRule name pattern) Yes No) OutsideDomain
 
--- the number of each answer: 0 is none
-abbrev pub numberOf : StandardMatch → ℕ
-numberOf Yes = 0
-numberOf No = 0
-numberOf OutsideDomain = 9
-
 -- a `+` of the pattern stands where the topic's last level is, and that level is empty
 unfoldable pub plusAtEmptyLast : List (List ℕ) → List (List ℕ) → Bool
 plusAtEmptyLast [] ps = false

@@ -2,7 +2,7 @@
 -- (`applied-counted`). Assumes nothing.
 use Prim.Native.Nat.{ℕ, zero, suc, _+_, _*_, _%_, _^_, _≤_, _<_}
 use mathlib.Core.Path.{_≡_, refl}
-use mathlib.Core.Bool.{Bool, true, false, cond, _||_, false≢true}
+use mathlib.Core.Bool.{Bool, true, false, _||_, false≢true}
 use mathlib.Core.List.{List, [], _∷_, _++_, foldl}
 use native.Mathlib.Omega.{arith}
 use lib.Dec.{eqb, ltb}
@@ -19,14 +19,9 @@ use Rattle.monitor.specs.declared.alerts.Raised.{Raised}
 use Rattle.monitor.specs.declared.alerts.SecurityAlert.{SecurityAlert}
 use Rattle.monitor.specs.declared.message.MqttMessage.{MqttMessage}
 use Rattle.monitor.specs.declared.state.MqttMonitor.{MqttMonitor}
-use Rattle.monitor.proofs.FoundLaws.{Settled, found-settled}
+use Rattle.monitor.proofs.FoundLaws.{Settled, either, found-settled}
 use Rattle.trace.specs.Record.{alertsText, recordText}
 use Rattle.trace.proofs.RecordLaws.{Typed, alert-short, record-short}
-
--- what holds either way holds of a choice
-pub choose : {A : Type 0} (P : A → Type 0) (b : Bool) {x y : A} → P x → P y → P (cond b x y)
-choose P true p q = p
-choose P false p q = q
 
 -- kinds are 1 to 11
 data Small : List ℕ → Type 0 where
@@ -116,9 +111,9 @@ module _ (hash : List ℕ) (long : length hash ≡ 32) (time : ℕ) where
         long = simp length-set (b .long);
         typed =
             all-set (r .count)
-            (record { id64 = b .id64; kind32 = omega arith; hash32 = choose (λ (l : List ℕ). length l ≡ 32) (eqb k 3 || eqb k 7) long refl })
+            (record { id64 = b .id64; kind32 = omega arith; hash32 = either (λ (l : List ℕ). length l ≡ 32) (eqb k 3 || eqb k 7) long refl })
             (b .typed);
-        id64 = choose (λ (n : ℕ). n < 2 ^ 64) (eqb ((r .«next_id» + 1) % 2 ^ 64) 0) (omega arith) (omega arith);
+        id64 = either (λ (n : ℕ). n < 2 ^ 64) (eqb ((r .«next_id» + 1) % 2 ^ 64) 0) (omega arith) (omega arith);
         total64 = omega arith;
       }))
       (λ t. rw t b)

@@ -5,33 +5,19 @@ use lines::lengths::number_line_len;
 use lines::put::put_flag_line;
 use lines::put::put_hex_line;
 use lines::put::put_number_line;
-use monitor::alerts::AlertSeverity;
 use monitor::alerts::MqttInspectResult;
 use monitor::alerts::SecurityAlert;
+use monitor::alerts::severity_number;
 ghost use mathlib.Core.Path.{_≡_};
 ghost use Prim.Native.Nat.{_≤_};
 ghost use lib.ListN.{length, take};
 ghost use Rattle.lines.specs.Wrote.{Wrote};
-ghost use Rattle.monitor.specs.Alerts.{severityNumber};
 ghost use Rattle.trace.specs.Record.{alertText, alertsText, recordText, closingText, recordWritten, recordKept};
 
 // How writing ended: 0 and how many bytes stand at the buffer's beginning; or 10 or 28 with nothing written.
 pub struct Written {
     pub number: u32,
     pub length: usize,
-}
-
-// A severity's number (002).
-fn severity_number(severity: AlertSeverity) -> u64
-    ensures { λ r. ⌜ r ≡ severityNumber severity ⌝ }
-{
-    match severity {
-        AlertSeverity::Info => 0,
-        AlertSeverity::Low => 1,
-        AlertSeverity::Medium => 2,
-        AlertSeverity::High => 3,
-        AlertSeverity::Critical => 4,
-    }
 }
 
 // An alert's four lines.

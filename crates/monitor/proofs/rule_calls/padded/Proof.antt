@@ -6,7 +6,8 @@ use Prim.Native.Nat.{_≤_, _-_}
 use native.Mathlib.Omega.{arith}
 use borrow.Author.Needs.{needs}
 use lib.ListN.{length, take, replicate}
-use Rattle.monitor.proofs.MoveLaws.{padded-more, padded-done}
+use Rattle.tables.proofs.PrefixLaws.{padded-more}
+use Rattle.monitor.proofs.MoveLaws.{padded-done}
 use Rattle.monitor.proofs.rule_calls.padded.Statement.{statement}
 use Rattle.monitor.proofs.rule_calls.padded.Tie as tie
 

@@ -6,7 +6,7 @@ use Prim.Native.Nat.{_≤_, _-_}
 use native.Mathlib.Omega.{arith}
 use lib.ListN.{take, replicate}
 use borrow.Author.Needs.{needs}
-use Rattle.tables.proofs.PrefixLaws.{prefix-more, prefix-done}
+use Rattle.tables.proofs.PrefixLaws.{padded-more, prefix-done}
 use Rattle.tables.proofs.identity.prefix_of.Statement.{statement}
 use Rattle.tables.proofs.identity.prefix_of.Tie as tie
 
@@ -37,7 +37,7 @@ loop-less c = search needs
 loop-again : tie.Need-loop-again Inv-loop μ-loop
 loop-again c =
     let l = c .before .before in
-    (omega arith, rw (l .loop .inv .1) (prefix-more (l .before .before .before .args .topic .now) (l .loop .i) (omega arith) (omega arith)))
+    (omega arith, rw (l .loop .inv .1) (padded-more 32 (l .before .before .before .args .topic .now) (l .loop .i) (omega arith) (omega arith)))
 
 returns : tie.Need-returns Inv-loop μ-loop
 returns c =

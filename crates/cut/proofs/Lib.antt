@@ -1,0 +1,2 @@
+pub mod ArgLaws
+pub mod SwapLaws
