@@ -1,5 +1,5 @@
-// One loop owns the monitor and inspects message after message: each table is asked by itself and what was decided is stored in place, as in `trace::run`; the rules are made in
-// a table alone. Rules and times are made from numbers, so that the Rust can be given the same; topics are lent, since what the compiler knows of them it computes beforehand.
+// One loop owns the monitor and inspects message after message: each is planned and what was decided is stored in place; the rules are made in a table alone. Rules and times
+// are made from numbers, so that the Rust can be given the same; topics are lent, since what the compiler knows of them it computes beforehand.
 use monitor::alerts::count_on;
 use monitor::calls::new_deny_default;
 use monitor::message::MqttMessage;
