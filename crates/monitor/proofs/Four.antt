@@ -7,13 +7,16 @@ use Prim.Native.Nat.{ℕ, _+_, _≤_, _<_}
 use native.Mathlib.Numerals.{add-one}
 use native.Mathlib.Omega.{arith}
 use borrow.Author.Tests.{lt-ltb}
-use lib.Dec.{ltb}
+use lib.Dec.{eqb, ltb}
 use lib.ListN.{length, take, length-set}
 use lib.Seq.{take-suc-set}
 use Rattle.topics.proofs.ByteLaws.{by}
 use Rattle.topics.specs.Payload.{payloadHash}
 use Rattle.monitor.specs.Alerts.{kindsOf, kindsAmong, alertOf, noneRaised, raise, raiseAll}
+use Rattle.monitor.specs.Inspect.{inspectRefusal, inspectWith}
+use Rattle.monitor.specs.Message.{usedTopic, usedPayload}
 use Rattle.monitor.specs.Plan.{planFrom, planOf, findingsIn}
+use Rattle.monitor.specs.Told.{AtMostFour, NoneDropped}
 use Rattle.monitor.specs.declared.alerts.Raised.{Raised}
 use Rattle.monitor.specs.declared.message.MqttMessage.{MqttMessage}
 use Rattle.monitor.specs.declared.state.MqttMonitor.{MqttMonitor}
@@ -70,3 +73,16 @@ module _ (matcher : List ℕ → List ℕ → Bool) (m : MqttMonitor) (msg : Mqt
   all-told =
       told-all (payloadHash payload) (msg .«timestamp_us») (m .«next_alert_id») (m .«total_alerts»)
       (kindsOf (findingsIn matcher m msg topic payload)) at-most-four
+
+pub four-at-most : AtMostFour
+unfolding inspectWith
+four-at-most matcher m c =
+    let topic = take (usedTopic (c .msg)) (c .topic) in
+    let payload = take (usedPayload (c .msg)) (c .payload) in
+    by (eqb (inspectRefusal m (c .msg) (c .topic) (c .payload)) 0)
+    (λ e. rw (e, all-counted matcher m (c .msg) topic payload) (at-most-four matcher m (c .msg) topic payload))
+    (λ e. rw e (omega arith))
+
+pub none-dropped : NoneDropped
+unfolding inspectWith
+none-dropped matcher m c z = rw z (all-told matcher m (c .msg) (take (usedTopic (c .msg)) (c .topic)) (take (usedPayload (c .msg)) (c .payload)))

@@ -14,7 +14,9 @@ pub mod Link
 pub mod MoveLaws
 pub mod PlainLaws
 pub mod PlanLaws
+pub mod Prepared
 pub mod Reached
+pub mod Replies
 pub mod SoundBuckets
 pub mod SoundCalls
 pub mod SoundIds

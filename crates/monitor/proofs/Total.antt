@@ -14,10 +14,12 @@ use Rattle.monitor.specs.Inspect.{applied, inspectRefusal, inspectWith}
 use Rattle.monitor.specs.Message.{usedTopic, usedPayload}
 use Rattle.monitor.specs.Plan.{planFrom, planOf, findingsIn}
 use Rattle.monitor.specs.Runs.{Call, answer, after, alertsIn}
+use Rattle.monitor.specs.Told.{TotalIsSum}
 use Rattle.monitor.specs.declared.message.MqttMessage.{MqttMessage}
 use Rattle.monitor.specs.declared.state.MqttMonitor.{MqttMonitor}
 use Rattle.monitor.proofs.AlertLaws.{raised-total}
 use Rattle.monitor.proofs.Four.{at-most-four, all-counted}
+use Rattle.monitor.proofs.Prepared.{no-alerts}
 
 -- a plan
 plan-total : (matcher : List ℕ → List ℕ → Bool) (m : MqttMonitor) (msg : MqttMessage) (topic payload : List ℕ)
@@ -31,7 +33,7 @@ plan-total matcher m msg topic payload fits =
     (at-most-four matcher m msg topic payload) fits)
 
 -- an inspection
-pub total-after : (matcher : List ℕ → List ℕ → Bool) (m : MqttMonitor) (msg : MqttMessage) (topic payload : List ℕ)
+total-after : (matcher : List ℕ → List ℕ → Bool) (m : MqttMonitor) (msg : MqttMessage) (topic payload : List ℕ)
     → m .«total_alerts» ≤ 18446744073709551615
     → inspectWith matcher m msg topic payload .monitor .«total_alerts»
     ≡ min (m .«total_alerts» + inspectWith matcher m msg topic payload .result .«alert_count») 18446744073709551615
@@ -42,7 +44,7 @@ total-after matcher m msg topic payload fits =
     (λ e. rw e (omega arith))
 
 -- a run
-pub total-over : (matcher : List ℕ → List ℕ → Bool) (m : MqttMonitor) (calls : List Call) → m .«total_alerts» ≤ 18446744073709551615
+total-over : (matcher : List ℕ → List ℕ → Bool) (m : MqttMonitor) (calls : List Call) → m .«total_alerts» ≤ 18446744073709551615
     → after matcher m calls .«total_alerts» ≡ min (m .«total_alerts» + alertsIn matcher m calls) 18446744073709551615
 unfolding after alertsIn
 total-over matcher m [] fits = omega arith
@@ -50,7 +52,9 @@ total-over matcher m (c ∷ cs) fits =
     let step = total-after matcher m (c .msg) (c .topic) (c .payload) fits in
     let rest = total-over matcher (answer matcher m c .monitor) cs (omega arith) in omega arith
 
--- a run from a state with total 0, as a constructor or a reset leaves it
-pub total-since : (matcher : List ℕ → List ℕ → Bool) (m : MqttMonitor) (calls : List Call) → m .«total_alerts» ≡ 0
-    → after matcher m calls .«total_alerts» ≡ min (alertsIn matcher m calls) 18446744073709551615
-total-since matcher m calls zero = let e = total-over matcher m calls (omega arith) in omega arith
+-- a run from a fresh monitor
+pub total-is-sum : TotalIsSum
+total-is-sum matcher m p calls =
+    let zero = no-alerts p in
+    let e = total-over matcher m calls (omega arith) in
+    omega arith

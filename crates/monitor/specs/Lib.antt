@@ -4,7 +4,9 @@ pub mod Gate
 pub mod Inspect
 pub mod Message
 pub mod Plan
+pub mod Prepared
 pub mod Reached
 pub mod Runs
 pub mod Sound
 pub mod State
+pub mod Told

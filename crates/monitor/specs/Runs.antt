@@ -1,9 +1,17 @@
--- Runs of a monitor: inspections one after the other, each on the state that the one before it left. What is claimed of many messages is said of them.
+-- Runs of a monitor: inspections one after the other, each on the state that the one before it left. What is claimed of many messages is said of them; a trace, a loop
+-- and later a queue are such runs.
 -- Assumes nothing.
+use mathlib.Core.Path.{_≡_}
 use mathlib.Core.Bool.{Bool}
 use mathlib.Core.List.{List, [], _∷_}
 use Prim.Native.Nat.{ℕ, _+_}
+use lib.Dec.{eqb}
+use lib.ListN.{length}
+use Rattle.monitor.specs.Alerts.{kindsAmong}
 use Rattle.monitor.specs.Inspect.{inspectWith}
+use Rattle.monitor.specs.Message.{usedTopic, usedPayload}
+use Rattle.monitor.specs.State.{numberOf}
+use Rattle.monitor.specs.declared.alerts.MqttInspectResult.{MqttInspectResult}
 use Rattle.monitor.specs.declared.inspection.Inspected.{Inspected}
 use Rattle.monitor.specs.declared.message.MqttMessage.{MqttMessage}
 use Rattle.monitor.specs.declared.state.MqttMonitor.{MqttMonitor}
@@ -14,6 +22,10 @@ pub record Call : Type 0 where
   pub topic : List ℕ
   pub payload : List ℕ
 
+-- a call whose buffers are exactly the parts that its message uses
+abbrev pub Exact : Call → Type 0
+Exact c = (length (c .topic) ≡ usedTopic (c .msg)) × (length (c .payload) ≡ usedPayload (c .msg))
+
 -- what a call hands back
 abbrev pub answer : (List ℕ → List ℕ → Bool) → MqttMonitor → Call → Inspected
 answer matcher m c = inspectWith matcher m (c .msg) (c .topic) (c .payload)
@@ -22,6 +34,28 @@ answer matcher m c = inspectWith matcher m (c .msg) (c .topic) (c .payload)
 unfoldable pub after : (List ℕ → List ℕ → Bool) → MqttMonitor → List Call → MqttMonitor
 after matcher m [] = m
 after matcher m (c ∷ cs) = after matcher (answer matcher m c .monitor) cs
+
+-- a call of a run and what was handed back for it: how it ended, its stage, its verdict and alerts, the next state
+pub record Reply : Type 0 where
+  pub call : Call
+  pub given : Inspected
+
+-- the replies of a run, call by call
+unfoldable pub replies : (List ℕ → List ℕ → Bool) → MqttMonitor → List Call → List Reply
+replies matcher m [] = []
+replies matcher m (c ∷ cs) = record { call = c; given = answer matcher m c } ∷ replies matcher (answer matcher m c .monitor) cs
+
+-- its message was inspected, and not refused
+abbrev pub isInspected : Reply → Bool
+isInspected r = eqb (numberOf (r .given .outcome)) 0
+
+-- its verdict
+abbrev pub isPassed : Reply → Bool
+isPassed r = r .given .result .allowed
+
+-- the kinds of the alerts that a result tells of, in order
+abbrev pub kindsTold : MqttInspectResult → List ℕ
+kindsTold r = kindsAmong (r .«alert_count») (r .alerts)
 
 -- how many alerts the calls of a run hand back in all
 unfoldable pub alertsIn : (List ℕ → List ℕ → Bool) → MqttMonitor → List Call → ℕ

@@ -16,19 +16,20 @@ use Rattle.tables.specs.declared.rules.QosPolicy.{QosPolicy}
 use Rattle.tables.specs.declared.rules.TopicAction.{TopicAction}
 use Rattle.tables.specs.declared.rules.TopicRule.{TopicRule}
 use Rattle.monitor.specs.Calls.{fresh, tested, isHeld, rulePlan, addRule}
+use Rattle.monitor.specs.Runs.{Call}
 use Rattle.monitor.specs.State.{wellFormed, numberOf}
 use Rattle.monitor.specs.declared.rule_calls.RulePlan.{RulePlan}
 use Rattle.monitor.specs.declared.state.Called.{Called}
 use Rattle.monitor.specs.declared.state.MqttMonitor.{MqttMonitor}
 use Rattle.monitor.proofs.FoundLaws.{either}
 use Rattle.trace.specs.Groups.{openingOf, ruleAt, messageAt}
-use Rattle.trace.specs.Trace.{Sent, Loaded, ruleInto, rulesInto, loadedFrom, loaded, messagesFrom, messagesOf, textFrom, traceText, enough}
+use Rattle.trace.specs.Trace.{Loaded, ruleInto, rulesInto, loadedFrom, loaded, messagesFrom, messagesOf, textFrom, traceText, enough}
 use Rattle.trace.proofs.RecordLaws.{closing-short}
 use Rattle.trace.proofs.GroupLaws.{opening-within, rule-within, message-within, message-further}
 use Rattle.trace.proofs.PlanBounds.{Counted, applied-counted, result-short}
 
 -- the text of so many messages
-text-short : (xs : List Sent) (m : MqttMonitor) (n number line : ℕ) → Counted m → n + length xs ≤ 2 ^ 64 → number < 2 ^ 64 → line < 2 ^ 64 → length (textFrom m n xs number line) ≤ 528 * length xs + 109
+text-short : (xs : List Call) (m : MqttMonitor) (n number line : ℕ) → Counted m → n + length xs ≤ 2 ^ 64 → number < 2 ^ 64 → line < 2 ^ 64 → length (textFrom m n xs number line) ≤ 528 * length xs + 109
 unfolding textFrom
 text-short [] m n number line c h a b = omega (arith, closing-short number line _ _ a b (c .inspected64) (c .total64))
 text-short (x ∷ xs) m n number line c h a b =

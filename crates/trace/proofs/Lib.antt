@@ -1,7 +1,7 @@
+pub mod AsRun
 pub mod Bound
 pub mod BufferLaws
 pub mod GroupLaws
-pub mod Inspected
 pub mod LineBounds
 pub mod LoadLaws
 pub mod PlanBounds

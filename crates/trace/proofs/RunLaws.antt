@@ -17,12 +17,13 @@ use Rattle.lines.proofs.WroteLaws.{wrote-then}
 use Rattle.monitor.specs.Calls.{fresh}
 use Rattle.monitor.specs.Inspect.{applied, resultOf}
 use Rattle.monitor.specs.Plan.{planOf}
+use Rattle.monitor.specs.Runs.{Call}
 use Rattle.monitor.specs.State.{withRules}
 use Rattle.monitor.specs.declared.plan.Plan.{Plan}
 use Rattle.monitor.specs.declared.state.MqttMonitor.{MqttMonitor}
 use Rattle.trace.specs.Groups.{messageAt, topicIn, payloadIn}
 use Rattle.trace.specs.Record.{recordText, closingText}
-use Rattle.trace.specs.Trace.{Sent, Messages, endedBy, sentFirst, planned, loaded, rulesOf, messagesFrom, messagesOf, textFrom, traceText, enough, putIf, wholeEnd}
+use Rattle.trace.specs.Trace.{Messages, endedBy, sentFirst, planned, loaded, rulesOf, messagesFrom, messagesOf, textFrom, traceText, enough, putIf, wholeEnd}
 use Rattle.trace.specs.declared.groups.MessageLines.{MessageLines}
 use Rattle.trace.specs.declared.run.LoadedRules.{LoadedRules}
 use Rattle.trace.specs.declared.run.TraceEnd.{TraceEnd}
@@ -59,7 +60,7 @@ module _ (s : List ℕ) where
   leftText m n at line = textFrom m n (left at line .sent) (left at line .number) (left at line .line)
 
   -- the message at a place
-  abbrev pub sentAt : ℕ → Sent
+  abbrev pub sentAt : ℕ → Call
   sentAt at = record { msg = messageAt s at .msg; topic = topicIn s (messageAt s at); payload = payloadIn s (messageAt s at) }
 
   turn : (k at line : ℕ) → at < length s → messageAt s at .number ≡ 0 → messagesFrom (suc k) s at line ≡ sentFirst (sentAt at) (messagesFrom k s (messageAt s at .next) (line + 7))

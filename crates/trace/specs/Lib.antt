@@ -1,3 +1,4 @@
+pub mod AsRun
 pub mod Groups
 pub mod Record
 pub mod Trace

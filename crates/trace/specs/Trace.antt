@@ -10,8 +10,8 @@ use Rattle.topics.specs.Matching.{portMatches}
 use Rattle.monitor.specs.Calls.{fresh, addRule}
 use Rattle.monitor.specs.Inspect.{applied, resultOf}
 use Rattle.monitor.specs.Plan.{planOf}
+use Rattle.monitor.specs.Runs.{Call}
 use Rattle.monitor.specs.State.{numberOf}
-use Rattle.monitor.specs.declared.message.MqttMessage.{MqttMessage}
 use Rattle.monitor.specs.declared.plan.Plan.{Plan}
 use Rattle.monitor.specs.declared.state.MqttMonitor.{MqttMonitor}
 use Rattle.tables.specs.declared.rules.TopicAction.the-variants.{Allow}
@@ -22,15 +22,9 @@ use Rattle.trace.specs.declared.groups.RuleLines.{RuleLines}
 use Rattle.trace.specs.declared.run.LoadedRules.{LoadedRules}
 use Rattle.trace.specs.declared.run.TraceEnd.{TraceEnd}
 
--- a message with its topic and payload
-pub record Sent : Type 0 where
-  pub msg : MqttMessage
-  pub topic : List ℕ
-  pub payload : List ℕ
-
 -- the messages of a trace, and how it ended: number and line
 pub record Messages : Type 0 where
-  pub sent : List Sent
+  pub sent : List Call
   pub number : ℕ
   pub line : ℕ
 
@@ -90,7 +84,7 @@ abbrev pub endedBy : ℕ → ℕ → Messages
 endedBy number line = record { sent = []; number = number; line = line }
 
 -- one message more in front
-abbrev pub sentFirst : Sent → Messages → Messages
+abbrev pub sentFirst : Call → Messages → Messages
 sentFirst x ms = record { sent = x ∷ ms .sent; number = ms .number; line = ms .line }
 
 -- the messages from a place to the end of the text, `line` lines being read; there are fewer of them than bytes, which is the first number
@@ -110,11 +104,11 @@ messagesOf s =
     cond (eqb (loaded s .number) 0) (messagesFrom (length s + 1) s (loaded s .next) (loaded s .line)) (endedBy (loaded s .number) (loaded s .line))
 
 -- what a message does to the monitor
-abbrev pub planned : MqttMonitor → Sent → Plan
+abbrev pub planned : MqttMonitor → Call → Plan
 planned m x = planOf portMatches m (x .msg) (x .topic) (x .payload)
 
 -- the records of messages from the n-th on, then the closing lines
-unfoldable pub textFrom : MqttMonitor → ℕ → List Sent → ℕ → ℕ → List ℕ
+unfoldable pub textFrom : MqttMonitor → ℕ → List Call → ℕ → ℕ → List ℕ
 textFrom m n [] number line = closingText number line (m .«total_inspected») (m .«total_alerts»)
 textFrom m n (x ∷ xs) number line = recordText n (resultOf (planned m x)) ++ textFrom (applied m (planned m x)) (n + 1) xs number line
 

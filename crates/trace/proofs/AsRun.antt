@@ -1,0 +1,121 @@
+-- A trace is a run of inspections (specs/AsRun.antt). The opening adds rules to a fresh monitor and nothing else. A message that was read has its topic and payload exactly, so
+-- that `inspect` refuses nothing and applies the plan that the trace applies; a plan that is applied keeps the state well formed. Assumes nothing.
+use Prim.Native.Nat.{ℕ, zero, suc, _+_}
+use mathlib.Core.Path.{_≡_, refl, sym, ap, _∙_}
+use mathlib.Core.Bool.{true}
+use mathlib.Core.List.{List, [], _∷_, _++_, append-assoc}
+use native.Mathlib.Omega.{arith}
+use lib.Dec.{eqb, leb}
+use lib.ListN.{length}
+use Rattle.topics.specs.Matching.{portMatches}
+use Rattle.monitor.specs.Inspect.{applied, resultOf, doneWith}
+use Rattle.monitor.specs.Prepared.{Prepared, made, rule}
+use Rattle.monitor.specs.Runs.{Call, Exact, answer, after, replies, isInspected}
+use Rattle.monitor.specs.State.{every, wellFormed}
+use Rattle.monitor.specs.declared.inspection.Inspected.{Inspected}
+use Rattle.monitor.specs.declared.state.MqttMonitor.{MqttMonitor}
+use Rattle.monitor.proofs.FoundLaws.{either}
+use Rattle.monitor.proofs.KeptFormed.{applied-formed}
+use Rattle.monitor.proofs.Prepared.{prepared-sound}
+use Rattle.monitor.proofs.Replies.{exact-done}
+use Rattle.trace.specs.AsRun.{recordsText, AsRun}
+use Rattle.trace.specs.Groups.{openingOf, ruleAt, messageAt}
+use Rattle.trace.specs.Record.{recordText, closingText}
+use Rattle.trace.specs.Trace.{Messages, Loaded, ruleInto, rulesInto, loadedFrom, loaded, messagesFrom, messagesOf, planned, textFrom, traceText}
+use Rattle.trace.specs.declared.groups.RuleLines.{RuleLines}
+use Rattle.trace.proofs.GroupLaws.{message-within}
+use Rattle.trace.proofs.RunLaws.{sentAt}
+
+-- only rules are added to a fresh monitor
+rule-prepared : (m : MqttMonitor) (s : List ℕ) (line : ℕ) (r : RuleLines) → Prepared m → Prepared (ruleInto m s line r .monitor)
+unfolding ruleInto
+rule-prepared m s line r p = either (λ (l : Loaded). Prepared (l .monitor)) (eqb (r .number) 0) (rule p _ _ _ _) p
+
+rules-prepared : (k : ℕ) (s : List ℕ) (l : Loaded) → Prepared (l .monitor) → Prepared (rulesInto k s l .monitor)
+unfolding rulesInto
+rules-prepared zero s l p = p
+rules-prepared (suc k) s l p =
+    let next : Loaded = ruleInto (l .monitor) s (l .line) (ruleAt s (l .next)) in
+    either (λ (x : Loaded). Prepared (x .monitor)) (eqb (l .number) 0)
+    (rules-prepared k s next (rule-prepared (l .monitor) s (l .line) (ruleAt s (l .next)) p))
+    p
+
+pub loaded-prepared : (s : List ℕ) → Prepared (loaded s .monitor)
+unfolding loaded loadedFrom
+loaded-prepared s =
+    let o = openingOf s in
+    either (λ (l : Loaded). Prepared (l .monitor)) (leb (length s) 65536)
+    (either (λ (l : Loaded). Prepared (l .monitor)) (eqb (o .number) 0)
+    (rules-prepared (o .rules) s _ (made (o .«default_action»)))
+    (made _))
+    (made _)
+
+-- all calls of a list lend exactly what their messages use
+abbrev pub AllExact : List Call → Type 0
+AllExact [] = Unit
+AllExact (c ∷ cs) = Exact c × AllExact cs
+
+exact-at : (s : List ℕ) (at : ℕ) → Exact (sentAt s at)
+exact-at s at =
+    let i = message-within s at refl in
+    (omega (arith, i .topicLong), omega (arith, i .payloadLong))
+
+from-exact : (k : ℕ) (s : List ℕ) (at line : ℕ) → AllExact (messagesFrom k s at line .sent)
+unfolding messagesFrom
+from-exact zero s at line = tt
+from-exact (suc k) s at line =
+    either (λ (x : Messages). AllExact (x .sent)) (leb (length s) at) tt
+    (either (λ (x : Messages). AllExact (x .sent)) (eqb (messageAt s at .number) 0)
+    (exact-at s at, from-exact k s (messageAt s at .next) (line + 7))
+    tt)
+
+-- so do the messages of a trace
+pub messages-exact : (s : List ℕ) → AllExact (messagesOf s .sent)
+unfolding messagesOf
+messages-exact s =
+    either (λ (x : Messages). AllExact (x .sent)) (eqb (loaded s .number) 0) (from-exact (length s + 1) s (loaded s .next) (loaded s .line)) tt
+
+module _ (m : MqttMonitor) (c : Call) (w : wellFormed m ≡ true) (e : Exact c) where
+  -- `inspect` applies the plan
+  done : answer portMatches m c ≡ doneWith m (planned m c)
+  done = exact-done m c w e portMatches
+
+  formed : wellFormed (applied m (planned m c)) ≡ true
+  formed = applied-formed portMatches m (c .msg) (c .topic) (c .payload) w
+
+-- none of the calls is refused
+run-inspected : (cs : List Call) (m : MqttMonitor) → wellFormed m ≡ true → AllExact cs → every isInspected (replies portMatches m cs) ≡ true
+unfolding every replies
+run-inspected [] m w e = refl
+run-inspected (c ∷ cs) m w e = rw (done m c w (e .0)) (run-inspected cs (applied m (planned m c)) (formed m c w (e .0)) (e .1))
+
+-- what is printed of some messages from a state on
+run-text : (cs : List Call) (m : MqttMonitor) (n number line : ℕ) → wellFormed m ≡ true → AllExact cs
+    → textFrom m n cs number line
+    ≡ recordsText n (replies portMatches m cs)
+    ++ closingText number line (after portMatches m cs .«total_inspected») (after portMatches m cs .«total_alerts»)
+unfolding textFrom recordsText replies after
+run-text [] m n number line w e = refl
+run-text (c ∷ cs) m n number line w e =
+    let next : MqttMonitor = applied m (planned m c) in
+    let r = run-text cs next (n + 1) number line (formed m c w (e .0)) (e .1) in
+    let first : List ℕ = recordText n (resultOf (planned m c)) in
+    let others : List ℕ = recordsText (n + 1) (replies portMatches next cs) in
+    let last : List ℕ = closingText number line (after portMatches next cs .«total_inspected») (after portMatches next cs .«total_alerts») in
+    ap (λ (t : List ℕ). first ++ t) r ∙ sym (append-assoc first others last)
+    ∙ ap
+    (λ (i : Inspected).
+    recordText n (i .result) ++ recordsText (n + 1) (replies portMatches (i .monitor) cs)
+    ++ closingText number line (after portMatches (i .monitor) cs .«total_inspected») (after portMatches (i .monitor) cs .«total_alerts»))
+    (sym (done m c w (e .0)))
+
+pub as-run : (s : List ℕ) → AsRun s
+unfolding traceText
+as-run s =
+    let p = loaded-prepared s in
+    let w = prepared-sound p .formed in
+    record {
+      prepared = p;
+      inspected = run-inspected (messagesOf s .sent) (loaded s .monitor) w (messages-exact s);
+      text = run-text (messagesOf s .sent) (loaded s .monitor) 1 (messagesOf s .number) (messagesOf s .line) w (messages-exact s);
+    }
