@@ -127,7 +127,8 @@ module _ {T : List RateBucket} (n : Named T) (x : Id) {R : ℕ} {y : Id} (o : Of
       beside x T k (spend (bucketAt T k) t .bucket) q i b l e m only g h (same-holder x (bucketAt T k) t ∙ nc)
       (λ z. clash m (sym (ap (λ j. holdsBucket x (bucketAt T j)) z ∙ ap (holdsBucket x) e) ∙ nc)) p
   other {rate = rate} s h (held i b l e m only g p) (put k ok q a (free z first-free)) =
-      beside x T k (made y rate (first ok rate) t) q i b l e m only g h (made-holder x y rate (first ok rate) t ∙ s) (λ r. clash (held-live x b m) (ap (λ d. d .active) (sym e ∙ ap (λ j. bucketAt T j) (sym r)) ∙ z)) p
+      beside x T k (made y rate (first ok rate) t) q i b l e m only g h (made-holder x y rate (first ok rate) t ∙ s)
+      (λ r. clash (held-live x b m) (ap (λ d. d .active) (sym e ∙ ap (λ j. bucketAt T j) (sym r)) ∙ z)) p
   other {rate = rate} s h (held i b l e m only g p) (put k ok q a (worn lives least w)) =
       by (eqb k i)
       (λ z.

@@ -12,7 +12,9 @@ use Rattle.tables.specs.Windows.{recorded, countFrom, inWindow, holdsClient, co
 use Rattle.theorems.specs.Corners.{Corners, allowedAt, deniedAt, alertsOf}
 
 pub corners : Corners
-unfolding matchBytes fromSlash takesNone takesEnd matchLevels firstLevel restLevels same has standardRule standardMatches wellPlaced countOf patternRefusal fnv1a djb2 suffixHash clientHashes prefixOf idOf isOf find leastOf seat refilled spend isExpired holdsBucket newcomer decide recorded countFrom inWindow holdsClient connect meanAfter isAnomaly fed holdsTracker feed allowedAt deniedAt alertsOf
+unfolding matchBytes fromSlash takesNone takesEnd matchLevels firstLevel restLevels same has standardRule standardMatches wellPlaced countOf
+    patternRefusal fnv1a djb2 suffixHash clientHashes prefixOf idOf isOf find leastOf seat refilled spend isExpired holdsBucket newcomer decide
+    recorded countFrom inWindow holdsClient connect meanAfter isAnomaly fed holdsTracker feed allowedAt deniedAt alertsOf
 corners =
     record {
       p1 = refl;

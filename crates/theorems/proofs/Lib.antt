@@ -10,7 +10,10 @@ pub mod Budget
 pub mod Corners
 pub mod Cuts
 pub mod Holders
+pub mod Loop
 pub mod Lower
+pub mod Printed
+pub mod Reach
 pub mod Seats
 pub mod ShutOut
 pub mod Slips

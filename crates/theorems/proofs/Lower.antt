@@ -18,13 +18,15 @@ use Rattle.tables.proofs.BucketLaws.{earned}
 use Rattle.tables.proofs.IdentityLaws.{OfTopic}
 use Rattle.tables.proofs.StepLaws.{bucketAt, Absent, Step, hit, put}
 use Rattle.monitor.specs.declared.state.MqttMonitor.{MqttMonitor}
+use Rattle.monitor.proofs.Prepared.{all-free}
 use Rattle.theorems.specs.Limits.{LowerFirst, LowerLater}
 use Rattle.monitor.specs.Runs.{Call, after}
-use Rattle.theorems.specs.Run.{Matcher, Prepared, time, used, rateOf, reaches, OneRate, done, next, Silent, arrived, isAmong, noted}
+use Rattle.monitor.specs.Prepared.{Prepared}
+use Rattle.theorems.specs.Run.{Matcher, time, used, rateOf, reaches, OneRate, done, next, Silent, arrived, isAmong, noted}
 use Rattle.theorems.proofs.Cuts.{Timed, From, from-start, until, after-two, arrived-two, rate-first, rate-rest, rate-head}
 use Rattle.theorems.proofs.Holders.{clash, Named, mine, absent-mine, absent-other}
 use Rattle.theorems.proofs.Seats.{Present, Seats, Room, room, noted-le, free-seat, newcomer-room, Known, known-wait, known-own, known-other, present-own}
-use Rattle.theorems.proofs.Turns.{Like, Turn, idle, stepped, of-used, formed-there, turn, on, on-run, all-free, free-place, no-one, begin}
+use Rattle.theorems.proofs.Turns.{Like, Turn, idle, stepped, of-used, formed-there, turn, on, on-run, free-place, no-one, begin}
 
 -- the identities after one call
 abbrev arrives : ℕ → Call → List Id → List Id

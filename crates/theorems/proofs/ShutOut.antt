@@ -3,7 +3,7 @@
 use mathlib.Core.Path.{_≡_, refl, sym, _∙_, ap}
 use mathlib.Core.Bool.{Bool, true, false, false≢true}
 use mathlib.Core.List.{List, [], _∷_, _++_}
-use Prim.Native.Nat.{ℕ, _+_, _≤_, _<_}
+use Prim.Native.Nat.{ℕ, _+_, _-_, _*_, _≤_, _<_}
 use native.Mathlib.Omega.{arith}
 use lib.ListN.{length}
 use Rattle.lines.specs.Bytes.{bytes}
@@ -41,10 +41,10 @@ use Rattle.trace.specs.Groups.{openingOf, opening1, opening2}
 use Rattle.trace.specs.Record.{closingText}
 use Rattle.trace.specs.Trace.{loadedFrom, loaded, messagesOf, textFrom, traceText, traceEnd}
 use Rattle.trace.specs.declared.run.TraceEnd.{TraceEnd}
-use Rattle.theorems.specs.Run.{Matcher, InOrder, single, later, OneRate, done, next, rateOf, reaches, allowedOf, isAmong, arrived}
-use Rattle.theorems.specs.ShutOut.{Monitor, passes, afterBy, passedBy, UpperBy, LowerBy, Meets, ShutOut}
+use Rattle.theorems.specs.Run.{Matcher, InOrder, single, later, OneRate, done, next, firstRate, rateOf, reaches, allowedOf, isAmong, arrived}
+use Rattle.theorems.specs.ShutOut.{Monitor, passes, afterBy, passedBy, UpperBy, LowerBy, LaterBy, Meets, ShutOut}
 use Rattle.theorems.specs.Tight.{hub, publish}
-use Rattle.theorems.proofs.Lower.{lower-first}
+use Rattle.theorems.proofs.Lower.{lower-first, lower-later}
 use Rattle.theorems.proofs.Tight.{hub-prepared}
 use Rattle.theorems.proofs.Turns.{Like, rate-like, formed-there, on, on-run, begin}
 use Rattle.theorems.proofs.Upper.{upper}
@@ -53,23 +53,36 @@ use Rattle.theorems.proofs.Upper.{upper}
 abbrev message : Call
 message = publish (bytes "m/a") 0
 
+-- the next one of it, half a second later
+abbrev soon : Call
+soon = publish (bytes "m/a") 500000
+
 -- what a monitor with one rule, at rate 2, does with it
 record Facts : Type 0 where
   reached : reaches portMatches (hub 2) (idOf (bytes "m/a")) message ≡ true
   one-rate : OneRate portMatches (hub 2) (idOf (bytes "m/a")) 2 (message ∷ message ∷ message ∷ [])
   few : length (arrived portMatches (hub 2) [] (message ∷ [])) ≤ 32
+  reached-soon : reaches portMatches (hub 2) (idOf (bytes "m/a")) soon ≡ true
+  one-rate-soon : OneRate portMatches (hub 2) (idOf (bytes "m/a")) 2 (message ∷ soon ∷ [])
+  few-soon : length (arrived portMatches (hub 2) [] (message ∷ soon ∷ [])) ≤ 32
   none : hub 2 .«total_inspected» ≡ 0
   first : answer portMatches (hub 2) message .monitor .«total_inspected» ≡ 1
   second : answer portMatches (answer portMatches (hub 2) message .monitor) message .monitor .«total_inspected» ≡ 2
   quiet : answer portMatches (hub 2) message .result .«alert_count» ≡ 0
 
 facts : Facts
-unfolding matchBytes fromSlash takesNone takesEnd firstLevel restLevels same has wellPlaced countOf patternRefusal fnv1a djb2 suffixHash prefixOf idOf isOf find leastOf refilled spend isExpired holdsBucket newcomer decide qosOk ruleFine equalRule firstRule covered shadowedAfter severityOf hashOf kindsOf raise raiseAll fresh rulePlan addRule rulingOf gateAfter gateOf applied inspectRefusal inspectWith seenOf spentOf fedOf denialOf planFrom planOf every wellFormed rateOf reaches hub publish isAmong arrived
+unfolding matchBytes fromSlash takesNone takesEnd firstLevel restLevels same has wellPlaced countOf patternRefusal fnv1a djb2 suffixHash prefixOf idOf
+    isOf find leastOf refilled spend isExpired holdsBucket newcomer decide qosOk ruleFine equalRule firstRule covered shadowedAfter severityOf hashOf
+    kindsOf raise raiseAll fresh rulePlan addRule rulingOf gateAfter gateOf applied inspectRefusal inspectWith seenOf spentOf fedOf denialOf planFrom
+    planOf every wellFormed firstRate rateOf reaches hub publish isAmong arrived
 facts =
     record {
       reached = refl;
       one-rate = next (λ _. refl) (next (λ _. refl) (next (λ _. refl) done));
       few = omega arith;
+      reached-soon = refl;
+      one-rate-soon = next (λ _. refl) (next (λ _. refl) done);
+      few-soon = omega arith;
       none = refl;
       first = refl;
       second = refl;
@@ -87,17 +100,32 @@ unfolding passedBy allowedOf reaches
 passed-ours k x [] = refl
 passed-ours k x (c ∷ cs) = rw (rate-like portMatches k c, passed-ours (on portMatches k c) x cs)
 
-ours : UpperBy (answer portMatches) × LowerBy (answer portMatches)
+ours : UpperBy (answer portMatches) × LowerBy (answer portMatches) × LaterBy (answer portMatches)
 ours = (
   λ p q x R before between a z o r ra rz.
       let k : Like p (after portMatches p before) = on-run portMatches (begin q (formed-there portMatches p x a ra)) before in
       rw (after-ours p before, passed-ours k x (a ∷ between ++ z ∷ [])) (upper portMatches p q x R before between a z o r ra rz),
   λ p q x before z o h s rz. rw (after-ours p before) (lower-first portMatches p q x before z o h s rz),
+  λ p q x R before between y z o h r ry s rz g.
+      rw (after-ours p (before ++ y ∷ between)) (lower-later portMatches p q x R before between y z o h r ry s rz g),
 )
 
 denies-everything : (f : Monitor) → LowerBy f → ¬ ((m : MqttMonitor) (c : Call) → passes f m c ≡ false)
 denies-everything f low all =
     false≢true (sym (all _ message) ∙ low (hub 2) (hub-prepared 2) (idOf (bytes "m/a")) [] message (single message) (facts .few) done (facts .reached))
+
+soon-in-order : InOrder (message ∷ soon ∷ [])
+unfolding publish
+soon-in-order = let h : 0 ≤ 500000 = omega arith in later h (single soon)
+
+denies-later : (f : Monitor) → LaterBy f → ¬ ((m : MqttMonitor) (c d : Call) → passes f (f m c .monitor) d ≡ false)
+unfolding afterBy publish
+denies-later f low all =
+    let h : 1000000 ≤ 2 * (500000 - 0) = omega arith in
+    false≢true
+    (sym (all (hub 2) message soon)
+    ∙ low (hub 2) (hub-prepared 2) (idOf (bytes "m/a")) 2 [] [] message soon soon-in-order (facts .few-soon) (facts .one-rate-soon) (facts .reached) done
+    (facts .reached-soon) h)
 
 in-order : InOrder (message ∷ message ∷ message ∷ [])
 unfolding publish
@@ -178,7 +206,10 @@ count (Done n) = n
 count (Refused n) = 0
 
 shadows : (validateRules (hub 2) ≡ Done 0) × (validateRules shadowed ≡ Done 1)
-unfolding matchBytes fromSlash takesNone takesEnd firstLevel restLevels same has wellPlaced countOf patternRefusal fnv1a djb2 suffixHash prefixOf idOf isOf find leastOf refilled spend isExpired holdsBucket newcomer decide qosOk ruleFine equalRule firstRule covered shadowedAfter severityOf hashOf kindsOf raise raiseAll fresh rulePlan addRule rulingOf gateAfter gateOf applied inspectRefusal inspectWith seenOf spentOf fedOf denialOf planFrom planOf every wellFormed rateOf reaches hub publish validateRules
+unfolding matchBytes fromSlash takesNone takesEnd firstLevel restLevels same has wellPlaced countOf patternRefusal fnv1a djb2 suffixHash prefixOf idOf
+    isOf find leastOf refilled spend isExpired holdsBucket newcomer decide qosOk ruleFine equalRule firstRule covered shadowedAfter severityOf hashOf
+    kindsOf raise raiseAll fresh rulePlan addRule rulingOf gateAfter gateOf applied inspectRefusal inspectWith seenOf spentOf fedOf denialOf planFrom
+    planOf every wellFormed firstRate rateOf reaches hub publish validateRules
 shadows = (refl, refl)
 
 invented-shadow : (v : MqttMonitor → Outcome) → ((m : MqttMonitor) → v m ≡ validateRules m) → (n : ℕ) → ¬ ((m : MqttMonitor) → v m ≡ Done n)
@@ -189,10 +220,12 @@ invented-shadow v meets n h =
 
 -- an empty trace is refused at its first line, and one with that line alone at its second
 lines-read : (traceEnd 200 [] .line ≡ 1) × (traceEnd 200 (bytes "default=allow" ++ 10 ∷ []) .line ≡ 2)
-unfolding fresh spanOf placeOf toByte firstWord restWords begins isWord wordOf wordIndex keyed lineAt answered wordField numberField decimal decimalIn numberLine openingOf opening1 opening2 closingText loadedFrom loaded messagesOf textFrom traceText traceEnd
+unfolding fresh spanOf placeOf toByte firstWord restWords begins isWord wordOf wordIndex keyed lineAt answered wordField numberField decimal decimalIn
+    numberLine openingOf opening1 opening2 closingText loadedFrom loaded messagesOf textFrom traceText traceEnd
 lines-read = (refl, refl)
 
-invented-line : (g : ℕ → List ℕ → TraceEnd) → ((room : ℕ) (text : List ℕ) → g room text ≡ traceEnd room text) → (n : ℕ) → ¬ ((room : ℕ) (text : List ℕ) → g room text .line ≡ n)
+invented-line : (g : ℕ → List ℕ → TraceEnd) → ((room : ℕ) (text : List ℕ) → g room text ≡ traceEnd room text) → (n : ℕ)
+    → ¬ ((room : ℕ) (text : List ℕ) → g room text .line ≡ n)
 invented-line g meets n h =
     let at : (text : List ℕ) → traceEnd 200 text .line ≡ n = λ text. sym (ap (λ (e : TraceEnd). e .line) (meets 200 text)) ∙ h 200 text in
     omega (arith, lines-read .0, lines-read .1, at [], at (bytes "default=allow" ++ 10 ∷ []))
@@ -202,6 +235,7 @@ shut-out =
     record {
       ours = ours;
       denies-everything = denies-everything;
+      denies-later = denies-later;
       allows-everything = allows-everything;
       never-moves = never-moves;
       first-only = first-only;

@@ -1,4 +1,5 @@
--- The two runs, by computation. Assumes nothing.
+-- The three runs, by computation. Assumes nothing.
+use mathlib.Core.Bool.{false≢true}
 use mathlib.Core.Path.{refl}
 use Prim.Native.Nat.{ℕ, _≤_}
 use native.Mathlib.Omega.{arith}
@@ -20,8 +21,9 @@ use Rattle.monitor.specs.Inspect.{applied, inspectRefusal, inspectWith}
 use Rattle.monitor.specs.Plan.{seenOf, spentOf, fedOf, denialOf, planFrom, planOf}
 use Rattle.monitor.specs.State.{every, wellFormed}
 use Rattle.monitor.specs.Runs.{after}
-use Rattle.theorems.specs.Run.{Prepared, made, rule, InOrder, single, later, done, next, rateOf, reaches, allowedOf, isAmong, arrived}
-use Rattle.theorems.specs.Tight.{hub, publish, busy, Met, crowd, Night}
+use Rattle.monitor.specs.Prepared.{Prepared, made, rule}
+use Rattle.theorems.specs.Run.{InOrder, single, later, done, next, firstRate, rateOf, reaches, allowedOf, isAmong, arrived}
+use Rattle.theorems.specs.Tight.{hub, publish, busy, Met, waits, MetLater, crowd, Night}
 
 pub hub-prepared : (rate : ℕ) → Prepared (hub rate)
 unfolding hub
@@ -35,9 +37,31 @@ busy-in-order =
     let c : 500000 ≤ 1000000 = omega arith in
     later a (later b (later c (single (publish (bytes "m/a") 1000000))))
 
-pub tight : Met × Night
-unfolding matchBytes fromSlash takesNone takesEnd firstLevel restLevels same has wellPlaced countOf patternRefusal fnv1a djb2 suffixHash prefixOf idOf isOf find leastOf refilled spend isExpired holdsBucket newcomer decide qosOk ruleFine equalRule firstRule covered shadowedAfter severityOf hashOf kindsOf raise raiseAll fresh rulePlan addRule rulingOf gateAfter gateOf applied inspectRefusal inspectWith seenOf spentOf fedOf denialOf planFrom planOf every wellFormed after rateOf reaches allowedOf isAmong arrived hub publish busy crowd
+waits-in-order : InOrder (waits 1000000)
+unfolding publish
+waits-in-order =
+    let a : 0 ≤ 0 = omega arith in
+    let b : 0 ≤ 1000000 = omega arith in
+    later a (later b (single (publish (bytes "m/a") 1000000)))
+
+pub tight : Met × MetLater × Night
+unfolding matchBytes fromSlash takesNone takesEnd firstLevel restLevels same has wellPlaced countOf patternRefusal fnv1a djb2 suffixHash prefixOf idOf
+    isOf find leastOf refilled spend isExpired holdsBucket newcomer decide qosOk ruleFine equalRule firstRule covered shadowedAfter severityOf hashOf
+    kindsOf raise raiseAll fresh rulePlan addRule rulingOf gateAfter gateOf applied inspectRefusal inspectWith seenOf spentOf fedOf denialOf planFrom
+    planOf every wellFormed after firstRate rateOf reaches allowedOf isAmong arrived hub publish busy crowd
 tight = (
   record { prepared = hub-prepared 2; in-order = busy-in-order; one-rate = next (λ _. refl) (next (λ _. refl) (next (λ _. refl) (next (λ _. refl) done))); exactly = refl },
+  record {
+    prepared = hub-prepared 1;
+    in-order = waits-in-order;
+    few = omega arith;
+    one-rate = next (λ _. refl) (next (λ e. absurd (false≢true e)) (next (λ _. refl) done));
+    reached = refl;
+    silent = next refl done;
+    reached-later = refl;
+    earned = omega arith;
+    allowed = refl;
+    sooner = refl;
+  },
   record { identities = refl; denied = (refl, refl, refl); allowed = (refl, refl) },
 )

@@ -15,16 +15,18 @@ use Rattle.tables.specs.declared.identity.Id.{Id}
 use Rattle.tables.specs.declared.buckets.RateBucket.{RateBucket}
 use Rattle.tables.proofs.IdentityLaws.{OfTopic, of-topic}
 use Rattle.tables.proofs.StepLaws.{bucketAt, Absent, Step, hit, put, step}
-use Rattle.monitor.specs.Calls.{fresh, tested, setStorm, rulePlan, addRule}
 use Rattle.monitor.specs.Inspect.{inspectRefusal}
 use Rattle.monitor.specs.Plan.{gateIn}
 use Rattle.monitor.specs.State.{wellFormed}
 use Rattle.monitor.specs.declared.state.MqttMonitor.{MqttMonitor}
 use Rattle.monitor.proofs.KeptFormed.{kept-formed}
+use Rattle.monitor.proofs.Prepared.{all-free}
 use Rattle.monitor.proofs.Link.{SameRules, refused, rules-stay, not-asked, asked, allowed}
 use Rattle.monitor.specs.Runs.{Call, answer, after}
-use Rattle.theorems.specs.Run.{Matcher, Prepared, made, storm, rule, time, isAllowed, used, rateOf, reaches}
+use Rattle.monitor.specs.Prepared.{Prepared}
+use Rattle.theorems.specs.Run.{Matcher, time, isAllowed, used, rateOf, reaches}
 use Rattle.theorems.proofs.Holders.{Named, names}
+use Rattle.theorems.proofs.Reach.{gate-rate, no-rate}
 
 -- a used topic's identity
 pub of-used : (c : Call) → OfTopic (idOf (used c))
@@ -47,7 +49,7 @@ module _ (matcher : Matcher) where
   -- rates stay
   pub rate-like : {m₀ m : MqttMonitor} → Like m₀ m → (c : Call) → rateOf matcher m c ≡ rateOf matcher m₀ c
   unfolding rateOf inspectRefusal
-  rate-like k c = rw (k .formed, k .formed₀, k .same .rules-same, k .same .count-same, k .same .default-same)
+  rate-like k c = rw (k .formed, k .formed₀, k .same .rules-same, k .same .count-same)
 
   -- who reaches the limiter does so in a well-formed state
   pub formed-there : (m : MqttMonitor) (x : Id) (c : Call) → reaches matcher m x c ≡ true → wellFormed m ≡ true
@@ -56,16 +58,15 @@ module _ (matcher : Matcher) where
 
   turn-here : (m : MqttMonitor) (c : Call) → length (m .«rate_buckets») ≡ 32
       → Turn (m .«rate_buckets») (rateOf matcher m c) c (answer matcher m c .monitor .«rate_buckets») (isAllowed matcher m c)
-  unfolding rateOf
   turn-here m c l =
       by (eqb (inspectRefusal m (c .msg) (c .topic) (c .payload)) 0)
       (λ e.
       by (ltb 0 (gateIn matcher m (c .msg) (used c) .rate))
       (λ h.
-      rw (e, asked matcher m (c .msg) (c .topic) (c .payload) e h l, allowed matcher m (c .msg) (c .topic) (c .payload) e h)
+      rw (← gate-rate matcher m c e, asked matcher m (c .msg) (c .topic) (c .payload) e h l, allowed matcher m (c .msg) (c .topic) (c .payload) e h)
       (stepped (ltb-true _ _ h) (step (m .«rate_buckets») (idOf (used c)) (gateIn matcher m (c .msg) (used c) .rate) (time c) (omega arith))))
-      (λ h. rw (e, not-asked matcher m (c .msg) (c .topic) (c .payload) e h) (idle (omega (arith, ltb-false 0 (gateIn matcher m (c .msg) (used c) .rate) h)))))
-      (λ e. rw (e, refused matcher m (c .msg) (c .topic) (c .payload) e) (idle refl))
+      (λ h. rw (← gate-rate matcher m c e, not-asked matcher m (c .msg) (c .topic) (c .payload) e h) (idle (omega (arith, ltb-false 0 (gateIn matcher m (c .msg) (used c) .rate) h)))))
+      (λ e. rw (refused matcher m (c .msg) (c .topic) (c .payload) e) (idle (no-rate matcher m c e)))
 
   pub turn : {m₀ m : MqttMonitor} → Like m₀ m → (c : Call)
       → Turn (m .«rate_buckets») (rateOf matcher m₀ c) c (answer matcher m c .monitor .«rate_buckets») (isAllowed matcher m c)
@@ -103,14 +104,7 @@ unfolding after
 on-run matcher k [] = k
 on-run matcher k (c ∷ cs) = on-run matcher (on matcher k c) cs
 
--- a monitor that only rules and settings were loaded into has no live bucket
-pub all-free : {m : MqttMonitor} → Prepared m → m .«rate_buckets» ≡ replicate 32 emptyBucket
-unfolding fresh setStorm addRule
-all-free (made default) = refl
-all-free (storm {m} p threshold window) = by (eqb (tested m 0) 0) (λ e. rw e (all-free p)) (λ e. rw e (all-free p))
-all-free (rule {m} p pattern action policy rate) =
-    by (eqb (tested m (rulePlan (m .rules) (m .«rule_count») pattern action policy rate .number)) 0) (λ e. rw e (all-free p)) (λ e. rw e (all-free p))
-
+-- a fresh monitor has no live bucket
 pub free-place : (j : ℕ) → bucketAt (replicate 32 emptyBucket) j .active ≡ false
 free-place j =
     by (ltb j 32) (λ h. rw (getD-replicate 32 j emptyBucket noBucket (ltb-true j 32 h)))

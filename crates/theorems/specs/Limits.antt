@@ -9,7 +9,8 @@ use lib.ListN.{length}
 use Rattle.tables.specs.declared.identity.Id.{Id}
 use Rattle.monitor.specs.declared.state.MqttMonitor.{MqttMonitor}
 use Rattle.monitor.specs.Runs.{Call, after}
-use Rattle.theorems.specs.Run.{Matcher, Prepared, time, isAllowed, reaches, InOrder, OneRate, Silent, allowedOf, arrived}
+use Rattle.monitor.specs.Prepared.{Prepared}
+use Rattle.theorems.specs.Run.{Matcher, time, isAllowed, reaches, InOrder, OneRate, Silent, allowedOf, arrived}
 
 -- UPPER HALF. One identity x whose messages reach the limiter under one rate R. From one such message `a` to another, `z`, D microseconds later, both counted, at most
 -- R + R x D / 1,000,000, rounded down, are allowed, however many other topics shout before them or between them

@@ -1,34 +1,28 @@
--- Runs of a monitor (`monitor`'s specs/Runs.antt) that begin with a fresh one and its rules, and what is said of their messages. Today a call is an inspection; the change
--- requests add others.
+-- Runs of a monitor (`monitor`'s specs/Runs.antt), and what demand 3 says of their messages: which of them reach the limiter, in document 01's own words and apart from what
+-- `inspect` does, so that an `inspect` which asked the limiter of other messages would break the theorems. Today a call is an inspection; the change requests add others.
 -- Assumes nothing.
 use mathlib.Core.Path.{_≡_}
-use mathlib.Core.Bool.{Bool, true, false, cond, _&&_}
+use mathlib.Core.Bool.{Bool, true, false, cond, not, _&&_}
 use mathlib.Core.List.{List, [], _∷_, _++_}
 use Prim.Native.Nat.{ℕ, _+_, _≤_}
 use lib.Dec.{eqb, ltb}
 use lib.ListN.{take}
+use Rattle.topics.specs.Levels.{none}
+use Rattle.topics.specs.Names.{badPublish}
 use Rattle.tables.specs.Identity.{idOf, isOf}
 use Rattle.tables.specs.declared.identity.Id.{Id}
-use Rattle.tables.specs.declared.rules.QosPolicy.{QosPolicy}
+use Rattle.tables.specs.Rules.{patternOf}
 use Rattle.tables.specs.declared.rules.TopicAction.{TopicAction}
-use Rattle.monitor.specs.Calls.{fresh, addRule, setStorm}
+use Rattle.tables.specs.declared.rules.TopicAction.the-variants.{Allow, Block}
+use Rattle.tables.specs.declared.rules.TopicRule.{TopicRule}
 use Rattle.monitor.specs.Inspect.{inspectRefusal}
-use Rattle.monitor.specs.Message.{usedTopic}
-use Rattle.monitor.specs.Plan.{gateIn}
+use Rattle.monitor.specs.Message.{typeNumber, usedTopic}
 use Rattle.monitor.specs.Runs.{Call, answer}
 use Rattle.monitor.specs.declared.state.MqttMonitor.{MqttMonitor}
 
 -- a matcher of the rules: topic, then pattern
 abbrev pub Matcher : Type 0
 Matcher = List ℕ → List ℕ → Bool
-
--- a fresh monitor of either constructor, with any CONNECT settings and rules loaded by `add_rule` calls, refused or not
-pub data Prepared : MqttMonitor → Type 0 where
-  made : (default : TopicAction) → Prepared (fresh default)
-  storm : {m : MqttMonitor} → Prepared m → (threshold window : ℕ) → Prepared (setStorm m threshold window .monitor)
-  rule :
-      {m : MqttMonitor} → Prepared m → (pattern : List ℕ) (action : TopicAction) (policy : QosPolicy) (rate : ℕ)
-      → Prepared (addRule m pattern action policy rate .monitor)
 
 -- a call's time
 abbrev pub time : Call → ℕ
@@ -42,9 +36,33 @@ isAllowed matcher m c = answer matcher m c .result .allowed
 abbrev pub used : Call → List ℕ
 used c = take (usedTopic (c .msg)) (c .topic)
 
--- the rate under which a call's message reaches the limiter; 0 where it is refused or does not reach it. Rules, and so rates, stay as they are over inspections
+-- it is a Publish
+abbrev pub isPublish : Call → Bool
+isPublish c = eqb (typeNumber (c .msg .«packet_type»)) 3
+
+-- the rate that an action leaves: none under Block
+abbrev pub rateIf : TopicAction → ℕ → ℕ
+rateIf Allow rate = rate
+rateIf Block rate = 0
+
+-- the rate of the first of some rules that matches a topic; 0 where that is Block, or there is none
+unfoldable pub firstRate : Matcher → List ℕ → List TopicRule → ℕ
+firstRate matcher topic [] = 0
+firstRate matcher topic (r ∷ rs) = cond (matcher topic (patternOf r)) (rateIf (r .action) (r .«max_rate_per_sec»)) (firstRate matcher topic rs)
+
+-- the rules of a state
+abbrev pub rulesIn : MqttMonitor → List TopicRule
+rulesIn m = take (m .«rule_count») (m .rules)
+
+-- a topic that may reach the limiter: not empty, free of zero, `+` and `#`
+abbrev pub isName : List ℕ → Bool
+isName topic = not (none topic) && not (badPublish topic)
+
+-- the rate under which a call's message reaches the limiter (document 01, "Buckets"): it is a Publish, not empty, free of zero, `+` and `#`, and its first matching rule is Allow
+-- with this rate; 0 where it does not reach it, or is refused. Rules, and so rates, stay as they are over inspections
 unfoldable pub rateOf : Matcher → MqttMonitor → Call → ℕ
-rateOf matcher m c = cond (eqb (inspectRefusal m (c .msg) (c .topic) (c .payload)) 0) (gateIn matcher m (c .msg) (used c) .rate) 0
+rateOf matcher m c =
+    cond (eqb (inspectRefusal m (c .msg) (c .topic) (c .payload)) 0 && isPublish c && isName (used c)) (firstRate matcher (used c) (rulesIn m)) 0
 
 -- a call's message is of an identity and reaches the limiter. Identity is document 01's: length, first bytes up to 32 and three hashes, so two topics above 32 bytes may be one
 unfoldable pub reaches : Matcher → MqttMonitor → Id → Call → Bool

@@ -17,7 +17,8 @@ use Rattle.monitor.specs.declared.state.Outcome.{Outcome}
 use Rattle.monitor.specs.declared.state.Outcome.the-variants.{Done}
 use Rattle.trace.specs.Trace.{traceEnd}
 use Rattle.trace.specs.declared.run.TraceEnd.{TraceEnd}
-use Rattle.theorems.specs.Run.{Matcher, Prepared, time, reaches, InOrder, OneRate, Silent, arrived}
+use Rattle.monitor.specs.Prepared.{Prepared}
+use Rattle.theorems.specs.Run.{Matcher, time, reaches, InOrder, OneRate, Silent, arrived}
 
 -- a monitor: what it hands back on a state and a call
 abbrev pub Monitor : Type 0
@@ -57,6 +58,18 @@ LowerBy f =
     → Silent portMatches p x before → reaches portMatches p x z ≡ true
     → passes f (afterBy f p before) z ≡ true
 
+-- its lower half, later messages
+abbrev pub LaterBy : Monitor → Type 0
+LaterBy f =
+    (p : MqttMonitor) → Prepared p
+    → (x : Id) (R : ℕ) (before between : List Call) (y z : Call)
+    → InOrder (before ++ y ∷ between ++ z ∷ [])
+    → length (arrived portMatches p [] (before ++ y ∷ between ++ z ∷ [])) ≤ 32
+    → OneRate portMatches p x R (before ++ y ∷ between ++ z ∷ [])
+    → reaches portMatches p x y ≡ true → Silent portMatches p x between → reaches portMatches p x z ≡ true
+    → 1000000 ≤ R * (time z - time y)
+    → passes f (afterBy f p (before ++ y ∷ between)) z ≡ true
+
 -- a monitor that meets the promise of `inspect`
 abbrev pub Meets : Monitor → Type 0
 Meets f = (m : MqttMonitor) (c : Call) → f m c ≡ answer portMatches m c
@@ -64,9 +77,11 @@ Meets f = (m : MqttMonitor) (c : Call) → f m c ≡ answer portMatches m c
 -- what is shut out
 pub record ShutOut : Type 0 where
   -- our own monitor meets both halves, so they shut out none that is right
-  pub ours : UpperBy (answer portMatches) × LowerBy (answer portMatches)
+  pub ours : UpperBy (answer portMatches) × LowerBy (answer portMatches) × LaterBy (answer portMatches)
   -- by demand 3's lower half: a monitor that denies everything
   pub denies-everything : (f : Monitor) → LowerBy f → ¬ ((m : MqttMonitor) (c : Call) → passes f m c ≡ false)
+  -- one that lets a first message pass and denies all that come later
+  pub denies-later : (f : Monitor) → LaterBy f → ¬ ((m : MqttMonitor) (c d : Call) → passes f (f m c .monitor) d ≡ false)
   -- by its upper half: one that allows everything
   pub allows-everything : (f : Monitor) → UpperBy f → ¬ ((m : MqttMonitor) (c : Call) → passes f m c ≡ true)
   -- by the promise: one whose state never moves
@@ -83,4 +98,6 @@ pub record ShutOut : Type 0 where
   -- a shadow count of its own, the same for all rules
   pub invented-shadow : (v : MqttMonitor → Outcome) → ((m : MqttMonitor) → v m ≡ validateRules m) → (n : ℕ) → ¬ ((m : MqttMonitor) → v m ≡ Done n)
   -- a line count of its own, the same for all traces
-  pub invented-line : (g : ℕ → List ℕ → TraceEnd) → ((room : ℕ) (text : List ℕ) → g room text ≡ traceEnd room text) → (n : ℕ) → ¬ ((room : ℕ) (text : List ℕ) → g room text .line ≡ n)
+  pub invented-line :
+      (g : ℕ → List ℕ → TraceEnd) → ((room : ℕ) (text : List ℕ) → g room text ≡ traceEnd room text)
+      → (n : ℕ) → ¬ ((room : ℕ) (text : List ℕ) → g room text .line ≡ n)
