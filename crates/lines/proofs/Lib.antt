@@ -10,6 +10,7 @@ pub mod LineLaws
 pub mod ReadDecimalLaws
 pub mod ReadHexLaws
 pub mod ReadWordLaws
+pub mod Round
 pub mod SpanLaws
 pub mod TestLaws
 pub mod WordLaws

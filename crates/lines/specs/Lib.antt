@@ -8,6 +8,7 @@ pub mod Part
 pub mod ReadDecimal
 pub mod ReadHex
 pub mod ReadWord
+pub mod Round
 pub mod Span
 pub mod Word
 pub mod Wrote

@@ -3,7 +3,7 @@ use mathlib.Core.Bool.{Bool, true}
 use mathlib.Core.List.{List}
 use mathlib.Core.Path.{_≡_}
 use Prim.Native.Nat.{ℕ}
-use Rattle.monitor.specs.Reached.{Reached, constructed, inspected, rule-added, rule-removed, rules-swapped, rules-cleared, storm-set, bucket-removed, tracker-removed, reset}
+use Rattle.monitor.specs.Reached.{Reached, SoundAlways, constructed, inspected, rule-added, rule-removed, rules-swapped, rules-cleared, storm-set, bucket-removed, tracker-removed, reset}
 use Rattle.monitor.specs.Sound.{Sound}
 use Rattle.monitor.specs.State.{wellFormed}
 use Rattle.monitor.specs.declared.state.MqttMonitor.{MqttMonitor}
@@ -26,3 +26,6 @@ module _ {matcher : List ℕ → List ℕ → Bool} where
   -- the test behind number 10
   pub reached-formed : {m : MqttMonitor} → Reached matcher m → wellFormed m ≡ true
   reached-formed r = reached-sound r .formed
+
+pub sound-always : SoundAlways
+sound-always matcher m r = reached-sound r

@@ -8,6 +8,7 @@ use Rattle.tables.specs.declared.rules.QosPolicy.{QosPolicy}
 use Rattle.tables.specs.declared.rules.TopicAction.{TopicAction}
 use Rattle.monitor.specs.Calls.{fresh, addRule, removeRule, swapRules, clearRules, setStorm, removeBucket, removeTracker, resetState}
 use Rattle.monitor.specs.Inspect.{inspectWith}
+use Rattle.monitor.specs.Sound.{Sound}
 use Rattle.monitor.specs.declared.message.MqttMessage.{MqttMessage}
 use Rattle.monitor.specs.declared.state.MqttMonitor.{MqttMonitor}
 
@@ -27,3 +28,7 @@ pub data Reached (matcher : List ℕ → List ℕ → Bool) : MqttMonitor → Ty
   bucket-removed : {m : MqttMonitor} (topic : List ℕ) → Reached matcher m → Reached matcher (removeBucket m topic .monitor)
   tracker-removed : {m : MqttMonitor} (topic : List ℕ) → Reached matcher m → Reached matcher (removeTracker m topic .monitor)
   reset : {m : MqttMonitor} → Reached matcher m → Reached matcher (resetState m .monitor)
+
+-- each of them is sound (specs/Sound.antt), which is more than number 10 tests: so that number is never met in one
+abbrev pub SoundAlways : Type 0
+SoundAlways = (matcher : List ℕ → List ℕ → Bool) (m : MqttMonitor) → Reached matcher m → Sound m

@@ -7,6 +7,7 @@ pub mod AnswersTables
 pub mod AnswersTopics
 pub mod AnswersTrace
 pub mod Budget
+pub mod Claims
 pub mod Corners
 pub mod Cuts
 pub mod Holders

@@ -1,3 +1,4 @@
+pub mod Claims
 pub mod Corners
 pub mod Limits
 pub mod One

@@ -5,6 +5,7 @@ use mathlib.Core.Path.{_≡_, refl, sym, _∙_}
 use Prim.Native.Nat.{ℕ}
 use Rattle.topics.specs.Levels.{levels, none, same, isHash, isPlus}
 use Rattle.topics.specs.Patterns.{wellPlaced}
+use Rattle.topics.specs.Meaning.{Difference}
 use Rattle.topics.specs.Matching.{matchLevels, portMatches, standardRule, plusAtEmptyLast}
 use Rattle.topics.proofs.ByteLaws.{by}
 use Rattle.topics.proofs.Meaning.{meaning}
@@ -28,6 +29,6 @@ difference (t ∷ ts) (p ∷ ps) =
     (λ q. rw (h, q, matchLevels, plusAtEmptyLast, difference ts ps) (sym (and-assoc (same p t) (matchLevels true ts ps) (not (plusAtEmptyLast ts ps))))))
 
 -- for every topic, and every pattern whose wildcards are well placed
-pub port-differs : (t p : List ℕ) → wellPlaced (levels p) ≡ true → portMatches t p ≡ (standardRule t p && not (plusAtEmptyLast (levels t) (levels p)))
+pub port-differs : Difference
 unfolding standardRule
 port-differs t p u = meaning false t p u ∙ difference (levels t) (levels p)

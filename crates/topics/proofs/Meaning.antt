@@ -8,6 +8,7 @@ use borrow.Author.Tests.{eqb-true}
 use lib.Dec.{eqb}
 use Rattle.topics.specs.Levels.{firstLevel, restLevels, levels, levelEnds, none, same, isHash, isPlus}
 use Rattle.topics.specs.Patterns.{wellPlaced}
+use Rattle.topics.specs.Meaning.{Meaning}
 use Rattle.topics.specs.Matching.{matchLevels, fromSlash, begins, takesNone, takesEnd, matchBytes}
 use Rattle.topics.proofs.ByteLaws.{by, Sort, slash, hash, plus, other, sort, turned}
 use Rattle.topics.proofs.Placed.{placed, placed-levels}
@@ -138,5 +139,5 @@ meaning-at f fresh [] (c ∷ p) u = no-topic f fresh p (sort c) u
 meaning-at f fresh (x ∷ t) (c ∷ p) u = each f fresh x t p (sort c) u (λ g s w. meaning-at f g s p w)
 
 -- for every topic, and every pattern whose wildcards are well placed
-pub meaning : (f : Bool) (t p : List ℕ) → wellPlaced (levels p) ≡ true → matchBytes f t p ≡ matchLevels f (levels t) (levels p)
+pub meaning : Meaning
 meaning f t p u = meaning-at f true t p (placed-levels p ∙ u)

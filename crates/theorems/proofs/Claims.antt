@@ -1,0 +1,39 @@
+-- All that we claim, gathered from the files that prove it. Assumes nothing.
+use Rattle.topics.proofs.Difference.{port-differs}
+use Rattle.topics.proofs.Meaning.{meaning}
+use Rattle.lines.proofs.Round.{round}
+use Rattle.monitor.proofs.Denied.{denied-by-kind}
+use Rattle.monitor.proofs.Four.{four-at-most, none-dropped}
+use Rattle.monitor.proofs.Reached.{sound-always}
+use Rattle.monitor.proofs.Total.{total-is-sum}
+use Rattle.theorems.specs.Claims.{Claims}
+use Rattle.theorems.proofs.Corners.{corners}
+use Rattle.theorems.proofs.Loop.{loop-limits}
+use Rattle.theorems.proofs.Lower.{lower-first, lower-later}
+use Rattle.theorems.proofs.Printed.{printed-limits}
+use Rattle.theorems.proofs.ShutOut.{shut-out}
+use Rattle.theorems.proofs.Slips.{slips}
+use Rattle.theorems.proofs.Tight.{tight}
+use Rattle.theorems.proofs.Upper.{upper}
+
+pub claims : Claims
+claims =
+    record {
+      upper = upper;
+      lower-first = lower-first;
+      lower-later = lower-later;
+      met = tight;
+      slips = slips;
+      printed = printed-limits;
+      looped = loop-limits;
+      sound = sound-always;
+      denied = denied-by-kind;
+      four = four-at-most;
+      none-dropped = none-dropped;
+      total = total-is-sum;
+      meaning = meaning;
+      difference = port-differs;
+      round = round;
+      corners = corners;
+      shut-out = shut-out;
+    }

@@ -1,0 +1,51 @@
+-- What we claim, in one record: a field for each claim, in the order of README's list, in words first. It can be read alone; each field names the statement that says it in full.
+-- `claims` in proofs/Claims.antt proves it, so a claim whose theorem is gone breaks the check. That every public call's promise leaves one answer is claimed function by function,
+-- in proofs/Answers*.antt; bin/answered holds that list to every public function.
+-- Assumes nothing.
+use Rattle.topics.specs.Meaning.{Meaning, Difference}
+use Rattle.lines.specs.Round.{Round}
+use Rattle.monitor.specs.Reached.{SoundAlways}
+use Rattle.monitor.specs.Told.{DeniedByKind, AtMostFour, NoneDropped, TotalIsSum}
+use Rattle.theorems.specs.Corners.{Corners}
+use Rattle.theorems.specs.Limits.{Upper, LowerFirst, LowerLater}
+use Rattle.theorems.specs.Printed.{PrintedLimits, LoopLimits}
+use Rattle.theorems.specs.ShutOut.{ShutOut}
+use Rattle.theorems.specs.Slips.{Slips}
+use Rattle.theorems.specs.Tight.{Met, MetLater, Night}
+
+pub record Claims : Type 0 where
+  -- DEMAND 3, of any fresh monitor and any run of inspections in order of time.
+  -- From one message of an identity under a rate R to another D microseconds later, at most R + R x D / 1,000,000 are allowed, however many other topics shout
+  pub upper : Upper
+  -- while no more than 32 identities have reached the limiter, the first message of each is allowed
+  pub lower-first : LowerFirst
+  -- and a later one is denied only if R x (the time since the one before it) is below 1,000,000
+  pub lower-later : LowerLater
+  -- these bounds are met: four messages where the bound is four; a later message at the very microsecond; the night that started this
+  pub met : Met × MetLater × Night
+  -- three slips of a limiter break the upper half
+  pub slips : Slips
+  -- WHAT IS PRINTED is what `inspect` answers, message by message, for every text; and demand 3 holds of it, for each topic of at most 32 bytes
+  pub printed : PrintedLimits
+  -- so too of the loop that `bin/measure loop` runs
+  pub looped : LoopLimits
+  -- ONE INSPECTION AND MANY. Every state that calls hand out is sound, so number 10 is never met in one
+  pub sound : SoundAlways
+  -- a message is denied exactly when kind 1, 2, 3, 5, 6, 9 or 10 was raised
+  pub denied : DeniedByKind
+  -- at most four alerts are raised
+  pub four : AtMostFour
+  -- and none is dropped: they tell of all that was found, in order
+  pub none-dropped : NoneDropped
+  -- the alert total is the sum of the alert counts since the monitor was made or reset, capped
+  pub total : TotalIsSum
+  -- MATCHING. On a pattern whose wildcards are well placed the byte matcher is document 01's definition, level by level
+  pub meaning : Meaning
+  -- and it differs from the standard's rule exactly at a `+` on an empty last level
+  pub difference : Difference
+  -- TEXT. What is written is read back, and what is read was written so
+  pub round : Round
+  -- DOCUMENT 01's corners, P1 to P12
+  pub corners : Corners
+  -- and what our statements shut out
+  pub shut-out : ShutOut
