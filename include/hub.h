@@ -1,10 +1,20 @@
-/* hub.h: the hub's message monitor for callers in C. Link target/staticlib/libhub.a, which `rt staticlib hub` proves
- * and writes.
+/* hub.h: the hub's message monitor for callers in C11 and C++11. Link target/staticlib/libhub.a, which `rt staticlib hub`
+ * proves and writes. The archive is for x86-64 Linux (ELF, System V calls), as position-independent code; besides the
+ * functions below it needs memcpy and memset. bin/header holds this file and the archive to each other.
  *
- * The caller's duties, for every function here: a pointer is not null and is aligned for its type, also where the
- * length beside it is 0; the length lies within the object that it points into; what a function writes to overlaps no
- * other argument. Each call then returns, allocates nothing, keeps no pointer and has no state: equal arguments give
- * equal answers, on any thread. A bool is 0 or 1. */
+ * The caller's duties, for every function here:
+ * - a pointer is not null, also where the length beside it is 0;
+ * - a length is at most PTRDIFF_MAX and lies within the object that its pointer points into;
+ * - the bytes that are read are initialised, and nothing changes them during the call; `out` need not be initialised;
+ * - what a function writes to overlaps no other argument, and nothing else reads or writes it during the call;
+ * - there is room on the stack: 48 KiB for hub_trace and hub_trace_length, 1 KiB for any other (see below).
+ *
+ * Each call then returns, allocates nothing, keeps no pointer and has no state: equal arguments give equal answers, on
+ * any thread. A bool is 0 or 1.
+ *
+ * Stack, in bytes below the caller, by measurement (rattle-kit-5b, x86-64; `bin/measure stack` measures again): hub_trace
+ * and hub_trace_length reach 41,362, every other call at most 256, less not being told apart. Whole, cut and damaged
+ * traces were tried; no function of the archive calls itself or has a frame that grows with its input. */
 #ifndef HUB_H
 #define HUB_H
 
@@ -12,17 +22,32 @@
 #include <stddef.h>
 #include <stdint.h>
 
+#ifdef __cplusplus
+static_assert(sizeof(size_t) == 8, "libhub.a is for x86-64: a length has 64 bits");
+extern "C" {
+#else
+_Static_assert(sizeof(size_t) == 8, "libhub.a is for x86-64: a length has 64 bits");
+#endif
+
+/* The longest trace, in bytes: a longer one is refused with 27. */
+#define HUB_TRACE_LONGEST 65536
+
+/* An `out` of so many bytes holds the answer to any trace, so hub_trace never gives 28 there (proved). It also spares
+ * hub_trace the pass that counts. */
+#define HUB_TRACE_ENOUGH 786432
+
 /* The two hashes that tell clients apart. */
-struct ClientHashes {
+struct HubClientHashes {
     uint32_t hash;  /* FNV-1a */
     uint32_t hash2; /* djb2 */
 };
 
 /* How a trace ended. */
 struct HubTrace {
-    uint32_t number; /* 0 for a whole trace, else the number of its refusal, as in the answer's `end=` line */
+    uint32_t number; /* 0 for a whole trace, else the number of its refusal, as in the answer's `end=` line; or 28, which
+                        has no such line, since nothing is written */
     uint64_t line;   /* the last line of a whole trace, else the refused one; 0 with 27 and 28 */
-    size_t length;   /* how many bytes of answer stand at `out` */
+    size_t length;   /* how many bytes the answer has; 0 with 28 */
 };
 
 /* FNV-1a of the data, 32 bits. Refuses nothing. */
@@ -35,7 +60,7 @@ uint32_t hub_djb2_hash(const uint8_t *data, size_t data_len);
 uint32_t hub_suffix_hash(const uint8_t *topic, size_t topic_len);
 
 /* Both hashes of a client id; 0 and 0 for an empty one. Refuses nothing. */
-struct ClientHashes hub_client_hashes(const uint8_t *client_id, size_t client_id_len);
+struct HubClientHashes hub_client_hashes(const uint8_t *client_id, size_t client_id_len);
 
 /* Writes the payload hash to the 32 bytes at `out`; all zero for no data. Refuses nothing. */
 void hub_compute_payload_hash(const uint8_t *data, size_t data_len, uint8_t out[32]);
@@ -52,8 +77,9 @@ uint32_t hub_pattern_refusal(const uint8_t *pattern, size_t pattern_len);
  * Refuses nothing. */
 bool hub_topic_matches(const uint8_t *topic, size_t topic_len, const uint8_t *pattern, size_t pattern_len);
 
-/* The same by MQTT 3.1.1 section 4.7: 0 no, 1 yes. Refuses an empty name and a pattern that no rule may have, each
- * with 9. */
+/* The same by MQTT 3.1.1 section 4.7, but without 4.7.2: a name that begins with a dollar sign is matched as any other.
+ * 0 no, 1 yes. Refuses an empty name and a pattern that no rule may have, each with 9; other names that the standard
+ * forbids, as one with a zero byte, are matched byte by byte. */
 uint32_t hub_standard_matches(const uint8_t *name, size_t name_len, const uint8_t *pattern, size_t pattern_len);
 
 /* Whether a filter is exactly `#`, `+` or `+/#`. Refuses nothing. */
@@ -70,5 +96,13 @@ bool hub_contains_invalid_publish_char(const uint8_t *topic, size_t topic_len);
  * text with 9 and 21 to 27; whatever the text, refuses an `out` that the answer does not fit into with 28, line 0,
  * length 0 and nothing written. */
 struct HubTrace hub_trace(const uint8_t *text, size_t text_len, uint8_t *out, size_t out_len);
+
+/* What hub_trace gives for this text where `out` has room for the whole answer: `length` is the room that it needs.
+ * Never 28. */
+struct HubTrace hub_trace_length(const uint8_t *text, size_t text_len);
+
+#ifdef __cplusplus
+}
+#endif
 
 #endif

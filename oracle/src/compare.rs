@@ -7,7 +7,7 @@ mod make;
 mod mosquitto;
 mod tally;
 
-use hub::ClientHashes;
+use hub::HubClientHashes;
 use make::{BLOCKS, LENGTHS, LIKE_NOBODY, SIGNS, pattern, short, topic};
 use std::fmt::Debug;
 use tally::{Class, Random};
@@ -154,9 +154,9 @@ fn inputs(seeds: [u64; 2]) -> Vec<(String, Vec<Vec<u8>>)> {
     sets
 }
 
-fn rust_client_hashes(client_id: &[u8]) -> ClientHashes {
+fn rust_client_hashes(client_id: &[u8]) -> HubClientHashes {
     let (hash, hash2) = client_hashes(client_id);
-    ClientHashes { hash, hash2 }
+    HubClientHashes { hash, hash2 }
 }
 
 /// The payload hash, and whether the bytes around it were left as they were.

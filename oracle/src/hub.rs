@@ -4,13 +4,13 @@
 /// The two hashes that tell clients apart.
 #[repr(C)]
 #[derive(Clone, Copy, Debug, PartialEq, Eq)]
-pub struct ClientHashes {
+pub struct HubClientHashes {
     pub hash: u32,
     pub hash2: u32,
 }
 
-/// How a trace ended: 0 for a whole one or the number of its refusal, the last or refused line, and how many bytes of
-/// answer were written.
+/// How a trace ended: 0 for a whole one or the number of its refusal, the last or refused line, and how many bytes the
+/// answer has.
 #[repr(C)]
 #[derive(Clone, Copy, Debug, PartialEq, Eq)]
 pub struct HubTrace {
@@ -20,14 +20,14 @@ pub struct HubTrace {
 }
 
 mod raw {
-    use super::{ClientHashes, HubTrace};
+    use super::{HubClientHashes, HubTrace};
 
     #[rustfmt::skip]
     unsafe extern "C" {
         pub fn hub_fnv1a_hash(data: *const u8, data_len: usize) -> u32;
         pub fn hub_djb2_hash(data: *const u8, data_len: usize) -> u32;
         pub fn hub_suffix_hash(topic: *const u8, topic_len: usize) -> u32;
-        pub fn hub_client_hashes(client_id: *const u8, client_id_len: usize) -> ClientHashes;
+        pub fn hub_client_hashes(client_id: *const u8, client_id_len: usize) -> HubClientHashes;
         pub fn hub_compute_payload_hash(data: *const u8, data_len: usize, out: *mut [u8; 32]);
         pub fn hub_validate_mqtt_wildcard(pattern: *const u8, pattern_len: usize) -> bool;
         pub fn hub_pattern_refusal(pattern: *const u8, pattern_len: usize) -> u32;
@@ -37,6 +37,7 @@ mod raw {
         pub fn hub_starts_with_dollar(topic: *const u8, topic_len: usize) -> bool;
         pub fn hub_contains_invalid_publish_char(topic: *const u8, topic_len: usize) -> bool;
         pub fn hub_trace(text: *const u8, text_len: usize, out: *mut u8, out_len: usize) -> HubTrace;
+        pub fn hub_trace_length(text: *const u8, text_len: usize) -> HubTrace;
     }
 }
 
@@ -60,7 +61,7 @@ pub fn suffix_hash(topic: &[u8]) -> u32 {
 
 /// FNV-1a and djb2 of a client id, 0 and 0 for an empty one. Refuses nothing.
 #[inline]
-pub fn client_hashes(client_id: &[u8]) -> ClientHashes {
+pub fn client_hashes(client_id: &[u8]) -> HubClientHashes {
     unsafe { raw::hub_client_hashes(client_id.as_ptr(), client_id.len()) }
 }
 
@@ -88,7 +89,8 @@ pub fn topic_matches(topic: &[u8], pattern: &[u8]) -> bool {
     unsafe { raw::hub_topic_matches(topic.as_ptr(), topic.len(), pattern.as_ptr(), pattern.len()) }
 }
 
-/// MQTT 3.1.1 matching: 0 no, 1 yes. Refuses an empty name and a pattern that `add_rule` refuses, with 9.
+/// MQTT 3.1.1 matching without its exception for dollar names (4.7.2): 0 no, 1 yes. Refuses an empty name and a pattern
+/// that `add_rule` refuses, with 9.
 #[inline]
 pub fn standard_matches(name: &[u8], pattern: &[u8]) -> u32 {
     unsafe { raw::hub_standard_matches(name.as_ptr(), name.len(), pattern.as_ptr(), pattern.len()) }
@@ -117,4 +119,10 @@ pub fn contains_invalid_publish_char(topic: &[u8]) -> bool {
 #[inline]
 pub fn trace(text: &[u8], out: &mut [u8]) -> HubTrace {
     unsafe { raw::hub_trace(text.as_ptr(), text.len(), out.as_mut_ptr(), out.len()) }
+}
+
+/// What `trace` hands back where `out` has room for the whole answer; its length is the room that it needs.
+#[inline]
+pub fn trace_length(text: &[u8]) -> HubTrace {
+    unsafe { raw::hub_trace_length(text.as_ptr(), text.len()) }
 }

@@ -136,6 +136,10 @@ fn difference(text: &[u8], end: End, expected: &[u8], spare: usize) -> Option<St
     if room[length..].iter().any(|&byte| byte != 0xa5) {
         return Some("bytes behind the answer were changed".into());
     }
+    let counted = hub::trace_length(text);
+    if counted != wanted {
+        return Some(format!("its length: hub {counted:?}, expected {wanted:?}"));
+    }
     // The longest room that is too short, half of the length, and none.
     for short in [length - 1, length / 2, 0] {
         let mut room = vec![0xa5; length];

@@ -10,7 +10,7 @@ use libc::STDIN_FILENO;
 use libc::STDOUT_FILENO;
 use lines::value;
 use topics::hashes::fnv1a_hash;
-use topics::matching::StandardMatch;
+use topics::matching::match_number;
 use topics::matching::standard_matches;
 use topics::matching::topic_matches;
 use topics::patterns::validate_mqtt_wildcard;
@@ -114,7 +114,7 @@ fn answer_match(line: &[u8]) {
 // What the two matchers answer, and whether they differ.
 fn compare(filter: &[u8], name: &[u8]) {
     let port = number_of(topic_matches(name, filter));
-    let standard = standard_number(standard_matches(name, filter));
+    let standard = match_number(standard_matches(name, filter));
     say(b"port ");
     say_answer(port);
     say(b"  standard ");
@@ -126,18 +126,9 @@ fn compare(filter: &[u8], name: &[u8]) {
     }
 }
 
-// 0 for no, 1 for yes, 9 outside the domain.
+// 0 for no, 1 for yes, as `match_number` has them.
 fn number_of(answer: bool) -> u32 {
     if answer { 1 } else { 0 }
-}
-
-// The same numbers, of the standard matcher.
-fn standard_number(answer: StandardMatch) -> u32 {
-    match answer {
-        StandardMatch::No => 0,
-        StandardMatch::Yes => 1,
-        StandardMatch::OutsideDomain => 9,
-    }
 }
 
 // Such a number as a word, three letters wide.

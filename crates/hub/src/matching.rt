@@ -1,5 +1,5 @@
 // The pattern test, the two matchers and the three small tests on a topic (document 01, "Topics, level by level").
-use topics::matching::StandardMatch;
+use topics::matching::match_number;
 use topics::matching::standard_matches;
 use topics::matching::topic_matches;
 use topics::names::contains_invalid_publish_char;
@@ -8,10 +8,9 @@ use topics::names::starts_with_dollar;
 use topics::patterns::pattern_refusal;
 use topics::patterns::validate_mqtt_wildcard;
 ghost use mathlib.Core.Path.{_≡_};
-ghost use Rattle.topics.specs.Matching.{portMatches, standardMatches};
+ghost use Rattle.topics.specs.Matching.{portMatches, standardMatches, matchNumber};
 ghost use Rattle.topics.specs.Names.{isBroad, startsWithDollar, badPublish};
 ghost use Rattle.topics.specs.Patterns.{validWildcards, patternRefusal};
-ghost use Rattle.hub.specs.Numbers.{matchNumber};
 
 // Whether a pattern's wildcards are well placed; no for an empty one.
 #[no_mangle]
@@ -37,23 +36,12 @@ pub extern "C" fn hub_topic_matches(topic: &[u8], pattern: &[u8]) -> bool
     topic_matches(topic, pattern)
 }
 
-// The standard matcher. An enum does not pass: 0 is no, 1 yes, 9 outside its domain.
+// The standard matcher: MQTT 3.1.1 section 4.7, but dollar names are matched as any other (no 4.7.2). An enum does not pass: 0 is no, 1 yes, 9 outside its domain.
 #[no_mangle]
 pub extern "C" fn hub_standard_matches(name: &[u8], pattern: &[u8]) -> u32
     ensures { λ r. ⌜ r ≡ matchNumber (standardMatches (now (name .entry)) (now (pattern .entry))) ⌝ }
 {
-    number_of(standard_matches(name, pattern))
-}
-
-// The number of each answer.
-fn number_of(answer: StandardMatch) -> u32
-    ensures { λ r. ⌜ r ≡ matchNumber answer ⌝ }
-{
-    match answer {
-        StandardMatch::No => 0,
-        StandardMatch::Yes => 1,
-        StandardMatch::OutsideDomain => 9,
-    }
+    match_number(standard_matches(name, pattern))
 }
 
 // Exactly `#`, `+` or `+/#`.

@@ -1,4 +1,4 @@
-// `inspect`: gate, plan, apply (document 01, "Order inside one inspection" and "Numbers handed back"). One body does all the stores.
+// `inspect`: gate, plan, apply (document 01, "Order inside one inspection" and "Numbers handed back"). Its body does all its stores.
 use crate::alerts::MqttInspectResult;
 use crate::alerts::count_on;
 use crate::alerts::no_alerts;

@@ -17,6 +17,8 @@ use Rattle.topics.proofs.matching.topic_matches as matching-topic-matches
 use Rattle.topics.proofs.matching.topic_matches.Reads as matching-topic-matches-reads
 use Rattle.topics.proofs.matching.standard_matches as matching-standard-matches
 use Rattle.topics.proofs.matching.standard_matches.Reads as matching-standard-matches-reads
+use Rattle.topics.proofs.matching.match_number as matching-match-number
+use Rattle.topics.proofs.matching.match_number.Reads as matching-match-number-reads
 use Rattle.topics.proofs.names.is_broad_wildcard_subscribe as names-is-broad-wildcard-subscribe
 use Rattle.topics.proofs.names.is_broad_wildcard_subscribe.Reads as names-is-broad-wildcard-subscribe-reads
 use Rattle.topics.proofs.names.starts_with_dollar as names-starts-with-dollar
@@ -79,6 +81,12 @@ one-matching-standard-matches κs a x y e f p q = p ∙ sym q
 
 pub any-matching-standard-matches : Any matching-standard-matches.ended matching-standard-matches-reads.Asked
 any-matching-standard-matches κs a = tt
+
+pub one-matching-match-number : One matching-match-number.ended matching-match-number-reads.Post
+one-matching-match-number κs a x y e f p q = p ∙ sym q
+
+pub any-matching-match-number : Any matching-match-number.ended matching-match-number-reads.Asked
+any-matching-match-number κs a = tt
 
 pub one-names-is-broad-wildcard-subscribe : One names-is-broad-wildcard-subscribe.ended names-is-broad-wildcard-subscribe-reads.Post
 one-names-is-broad-wildcard-subscribe κs a x y e f p q = p ∙ sym q

@@ -74,6 +74,12 @@ unfoldable pub standardMatches : List ℕ → List ℕ → StandardMatch
 standardMatches name pattern =
     cond (eqb (patternRefusal pattern) 0 && not (none name)) (cond (standardRule name pattern) Yes No) OutsideDomain
 
+-- the number of each answer: 0 no, 1 yes, and document 01's 9 outside the domain
+abbrev pub matchNumber : StandardMatch → ℕ
+matchNumber No = 0
+matchNumber Yes = 1
+matchNumber OutsideDomain = 9
+
 -- a `+` of the pattern stands where the topic's last level is, and that level is empty
 unfoldable pub plusAtEmptyLast : List (List ℕ) → List (List ℕ) → Bool
 plusAtEmptyLast [] ps = false

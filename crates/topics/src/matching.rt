@@ -3,9 +3,9 @@ use crate::patterns::pattern_refusal;
 ghost use mathlib.Core.Path.{_≡_};
 ghost use Prim.Native.Nat.{_+_, _-_, _≤_};
 ghost use lib.ListN.{length, drop};
-ghost use Rattle.topics.specs.Matching.{fromSlash, takesNone, takesEnd, matchBytes, portMatches, standardMatches};
+ghost use Rattle.topics.specs.Matching.{fromSlash, takesNone, takesEnd, matchBytes, portMatches, standardMatches, matchNumber};
 
-// What the standard matcher answers; document 01's number 9 is `OutsideDomain`.
+// What the standard matcher answers.
 pub enum StandardMatch {
     Yes,
     No,
@@ -104,7 +104,7 @@ pub fn topic_matches(topic: &[u8], pattern: &[u8]) -> bool
     matches_with(topic, pattern, false)
 }
 
-// The standard: MQTT 3.1.1 section 4.7, for a pattern that `add_rule` takes and a name of at least 1 byte.
+// The standard: MQTT 3.1.1 section 4.7 without 4.7.2 (dollar names), for a pattern that `add_rule` takes and a name of at least 1 byte.
 pub fn standard_matches(name: &[u8], pattern: &[u8]) -> StandardMatch
     ensures { λ r. ⌜ r ≡ standardMatches (now (name .entry)) (now (pattern .entry)) ⌝ }
 {
@@ -118,5 +118,16 @@ pub fn standard_matches(name: &[u8], pattern: &[u8]) -> StandardMatch
         StandardMatch::Yes
     } else {
         StandardMatch::No
+    }
+}
+
+// The number of each answer, for callers to whom an enum does not pass.
+pub fn match_number(answer: StandardMatch) -> u32
+    ensures { λ r. ⌜ r ≡ matchNumber answer ⌝ }
+{
+    match answer {
+        StandardMatch::No => 0,
+        StandardMatch::Yes => 1,
+        StandardMatch::OutsideDomain => 9,
     }
 }

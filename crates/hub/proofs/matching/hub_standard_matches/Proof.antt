@@ -6,12 +6,12 @@ use Rattle.hub.proofs.matching.hub_standard_matches.Tie as tie
 standard-matches-requires : tie.Need-standard-matches-requires
 standard-matches-requires c κs = search needs
 
-number-of-requires : tie.Need-number-of-requires
-number-of-requires c κs = search needs
+match-number-requires : tie.Need-match-number-requires
+match-number-requires c κs = search needs
 
 returns : tie.Need-returns
 returns c = cc
 
 pub hub-standard-matches-spec : {M : Type 1} → statement M
 hub-standard-matches-spec =
-    tie.close (tie.spec standard-matches-requires number-of-requires returns)
+    tie.close (tie.spec standard-matches-requires match-number-requires returns)

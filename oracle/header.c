@@ -1,0 +1,126 @@
+/* header: a caller in C, or compiled as C++, that has only include/hub.h and the archive. It calls every export and
+ * holds the answers to known ones: document 01's P1 to P8 and its trace, and answers recorded from the Rust original
+ * (crates/replay/stdin). The last line is the tally. bin/header compiles and runs it. */
+#include "hub.h"
+
+#include <stdio.h>
+#include <string.h>
+
+static int passed, failed;
+
+static void holds(const char *what, bool so) {
+    if (so) {
+        passed++;
+    } else {
+        failed++;
+        printf("header: %s\n", what);
+    }
+}
+
+/* A string as pointer and length, without its closing zero. */
+#define BYTES(text) (const uint8_t *)(text), sizeof(text) - 1
+
+/* One test for each side of document 01's matching corners: what the port and the standard matcher answer. */
+#define MATCH(topic, pattern, port, standard)                                                                         \
+    holds("port: " pattern " on " topic, hub_topic_matches(BYTES(topic), BYTES(pattern)) == (port));                  \
+    holds("standard: " pattern " on " topic, hub_standard_matches(BYTES(topic), BYTES(pattern)) == (standard))
+
+static void matching(void) {
+    MATCH("sport", "sport/#", true, 1);        /* P1 */
+    MATCH("sport/", "sport/+", false, 1);      /* P2 */
+    MATCH("/finance", "+/+", true, 1);         /* P3 */
+    MATCH("sport/a", "sport/+/#", true, 1);    /* P4 */
+    MATCH("sport/a/b", "sport/+", false, 0);   /* P5 */
+    MATCH("$SYS", "#", true, 1);               /* no 4.7.2 */
+    MATCH("a", "a+", false, 9);                /* outside the standard matcher's domain */
+    MATCH("", "#", true, 9);                   /* likewise */
+    holds("a name with a zero byte is matched", hub_standard_matches(BYTES("a\0"), BYTES("+")) == 1);
+
+    holds("P6, a+/b", hub_pattern_refusal(BYTES("a+/b")) == 9 && !hub_validate_mqtt_wildcard(BYTES("a+/b")));
+    holds("P6, a/#/b", hub_pattern_refusal(BYTES("a/#/b")) == 9 && !hub_validate_mqtt_wildcard(BYTES("a/#/b")));
+    holds("P7, +/+/+", hub_pattern_refusal(BYTES("+/+/+")) == 0 && hub_validate_mqtt_wildcard(BYTES("+/+/+")));
+    holds("P7, four +", hub_pattern_refusal(BYTES("+/+/+/+")) == 9 && hub_validate_mqtt_wildcard(BYTES("+/+/+/+")));
+    holds("an empty pattern", hub_pattern_refusal(BYTES("")) == 9 && !hub_validate_mqtt_wildcard(BYTES("")));
+
+    holds("+/# is broad", hub_is_broad_wildcard_subscribe(BYTES("+/#")));
+    holds("a/# is not broad", !hub_is_broad_wildcard_subscribe(BYTES("a/#")));
+    holds("$SYS begins with a dollar sign", hub_starts_with_dollar(BYTES("$SYS")));
+    holds("a$ does not", !hub_starts_with_dollar(BYTES("a$")));
+    holds("a zero byte is not for a Publish", hub_contains_invalid_publish_char(BYTES("a\0b")));
+    holds("a dollar sign is", !hub_contains_invalid_publish_char(BYTES("$a")));
+}
+
+static void hashing(void) {
+    static const uint8_t hash_of_a[32] = {0x2c, 0x29, 0x0c, 0xe4, 0xbc, 0x4c, 0x66, 0xe8, 0x03, 0xf1, 0x8b,
+                                          0xd2, 0xcf, 0x85, 0x0f, 0x99, 0xa9, 0x6e, 0x7f, 0x8a, 0x96, 0xc4,
+                                          0x93, 0xa6, 0xe5, 0x2d, 0x0c, 0xe7, 0xf9, 0x37, 0xa0, 0x58};
+    static const uint8_t zeros[32] = {0};
+    uint8_t out[34];
+    struct HubClientHashes client = hub_client_hashes(BYTES("a"));
+    struct HubClientHashes nobody = hub_client_hashes(BYTES(""));
+    holds("P8, FNV-1a", hub_fnv1a_hash(BYTES("a")) == 0xe40c292cu);
+    holds("P8, djb2", hub_djb2_hash(BYTES("a")) == 177670);
+    holds("the suffix hash of 33 bytes", hub_suffix_hash(BYTES("0123456789abcdef0123456789abcdefa")) == 177670);
+    holds("the suffix hash of 32 bytes", hub_suffix_hash(BYTES("0123456789abcdef0123456789abcdef")) == 0);
+    holds("the hashes of a client id", client.hash == 0xe40c292cu && client.hash2 == 177670);
+    holds("the hashes of no client id", nobody.hash == 0 && nobody.hash2 == 0);
+
+    memset(out, 0xa5, sizeof out);
+    hub_compute_payload_hash(BYTES("a"), out + 1);
+    holds("the payload hash", memcmp(out + 1, hash_of_a, 32) == 0);
+    holds("the bytes beside it", out[0] == 0xa5 && out[33] == 0xa5);
+    hub_compute_payload_hash(BYTES(""), out + 1);
+    holds("the payload hash of no data", memcmp(out + 1, zeros, 32) == 0);
+}
+
+/* Document 01's example of a trace, and its answer. */
+#define MESSAGE(at) "at=" at "\nclock=ok\ntype=3\nqos=0\ntopic=6d2f61\nsize=0\npayload=\n"
+static const char text[] = "default=allow\nrules=1\npattern=6d2f2b\naction=allow\nqos=any\nrate=1\n" MESSAGE("1000000")
+    MESSAGE("1500000");
+static const char answer[] = "n=1\nallowed=1\nalerts=0\nn=2\nallowed=0\nalerts=1\nid=1\nkind=5\nseverity=2\n"
+                             "hash=0000000000000000000000000000000000000000000000000000000000000000\n"
+                             "end=0\nline=20\ninspected=2\ntotal=1\n";
+static const char refused[] = "end=26\nline=1\ninspected=0\ntotal=0\n";
+static uint8_t room[HUB_TRACE_ENOUGH];
+static uint8_t longer[HUB_TRACE_LONGEST + 1];
+
+static bool ended(struct HubTrace end, uint32_t number, uint64_t line, size_t length) {
+    return end.number == number && end.line == line && end.length == length;
+}
+
+/* Whether all of the room from a place on is as `tracing` painted it. */
+static bool untouched(size_t from) {
+    while (from < sizeof room && room[from] == 0xa5)
+        from++;
+    return from == sizeof room;
+}
+
+static void tracing(void) {
+    const size_t length = sizeof answer - 1;
+    memset(room, 0xa5, sizeof room);
+    holds("the length of a trace's answer", ended(hub_trace_length(BYTES(text)), 0, 20, length));
+    holds("28 where the room is a byte too short", ended(hub_trace(BYTES(text), room, length - 1), 28, 0, 0));
+    holds("28 where there is no room", ended(hub_trace(BYTES(text), room, 0), 28, 0, 0));
+    holds("28 writes nothing", untouched(0));
+    holds("how a trace ends", ended(hub_trace(BYTES(text), room, length), 0, 20, length));
+    holds("its answer", memcmp(room, answer, length) == 0);
+    holds("the room behind it", untouched(length));
+    memset(room, 0xa5, sizeof room);
+    holds("the same with room enough for any", ended(hub_trace(BYTES(text), room, sizeof room), 0, 20, length));
+    holds("its answer", memcmp(room, answer, length) == 0 && untouched(length));
+
+    holds("the length of a refused answer", ended(hub_trace_length(BYTES("")), 26, 1, sizeof refused - 1));
+    holds("an empty text", ended(hub_trace(BYTES(""), room, sizeof room), 26, 1, sizeof refused - 1));
+    holds("its answer", memcmp(room, refused, sizeof refused - 1) == 0);
+    holds("27 is for texts over the longest",
+          hub_trace(longer, sizeof longer, room, sizeof room).number == 27 &&
+              hub_trace(longer, sizeof longer - 1, room, sizeof room).number == 26);
+}
+
+int main(void) {
+    matching();
+    hashing();
+    tracing();
+    printf("%d passed, %d failed\n", passed, failed);
+    return failed != 0;
+}

@@ -1,0 +1,70 @@
+//! benchstack FILE..: the deepest stack of every export of the archive, for bin/measure and include/hub.h. The files are
+//! traces; what the other calls are given is made here.
+
+mod hub;
+mod stack;
+
+use std::hint::black_box;
+
+/// Room for any answer.
+const ENOUGH: usize = 786_432;
+
+/// One row; the least depth that is told from less is that of a call that does nothing.
+fn row(name: &str, call: impl FnMut() + Send) {
+    println!("| {name} | {} |", stack::depth(call));
+}
+
+fn main() {
+    let traces: Vec<Vec<u8>> =
+        std::env::args().skip(1).flat_map(|file| variants(&std::fs::read(file).unwrap())).collect();
+    let strings = strings();
+    println!("| Call | Deepest stack, bytes |\n|---|---|");
+    row("nothing", || ());
+    let each = |call: fn(&[u8])| strings.iter().for_each(|string| call(black_box(string)));
+    row("hub_fnv1a_hash", || each(|data| _ = black_box(hub::fnv1a_hash(data))));
+    row("hub_djb2_hash", || each(|data| _ = black_box(hub::djb2_hash(data))));
+    row("hub_suffix_hash", || each(|topic| _ = black_box(hub::suffix_hash(topic))));
+    row("hub_client_hashes", || each(|client| _ = black_box(hub::client_hashes(client))));
+    row("hub_compute_payload_hash", || each(|data| hub::compute_payload_hash(data, black_box(&mut [0; 32]))));
+    row("hub_validate_mqtt_wildcard", || each(|pattern| _ = black_box(hub::validate_mqtt_wildcard(pattern))));
+    row("hub_pattern_refusal", || each(|pattern| _ = black_box(hub::pattern_refusal(pattern))));
+    row("hub_is_broad_wildcard_subscribe", || each(|topic| _ = black_box(hub::is_broad_wildcard_subscribe(topic))));
+    row("hub_starts_with_dollar", || each(|topic| _ = black_box(hub::starts_with_dollar(topic))));
+    row("hub_contains_invalid_publish_char", || each(|topic| _ = black_box(hub::contains_invalid_publish_char(topic))));
+    let pairs = |call: fn(&[u8], &[u8])| strings.iter().for_each(|a| strings.iter().for_each(|b| call(a, b)));
+    row("hub_topic_matches", || pairs(|topic, pattern| _ = black_box(hub::topic_matches(topic, pattern))));
+    row("hub_standard_matches", || pairs(|name, pattern| _ = black_box(hub::standard_matches(name, pattern))));
+    let mut room = vec![0; ENOUGH];
+    row("hub_trace, room for any answer", || traces.iter().for_each(|text| _ = hub::trace(text, &mut room)));
+    row("hub_trace, less room", || {
+        for text in &traces {
+            let length = hub::trace_length(text).length;
+            black_box([hub::trace(text, &mut room[..length]), hub::trace(text, &mut room[..length - 1])]);
+        }
+    });
+    row("hub_trace_length", || traces.iter().for_each(|text| _ = black_box(hub::trace_length(text))));
+}
+
+/// Patterns of every kind, and long strings of levels with and without wildcards.
+fn strings() -> Vec<Vec<u8>> {
+    let mut all: Vec<Vec<u8>> = [&b""[..], b"#", b"+", b"+/#", b"+/+/+/#", b"a/+/b/#", b"a#", b"$SYS/#", b"a\0b", b"/"]
+        .iter()
+        .map(|pattern| pattern.to_vec())
+        .collect();
+    for long in [1, 31, 32, 33, 63, 64, 65, 128, 256, 65_536] {
+        for level in [&b"level/"[..], b"+/", b"/", b"a"] {
+            all.push(level.iter().copied().cycle().take(long).collect());
+        }
+    }
+    all
+}
+
+/// A trace, and what can go wrong with it: an end in many places, a bad byte in many places, too many bytes.
+fn variants(text: &[u8]) -> Vec<Vec<u8>> {
+    let mut all = vec![text.to_vec(), [text, &[b'\n'; 65_537]].concat()];
+    for place in (0..text.len()).step_by(1 + text.len() / 40) {
+        all.push(text[..place].to_vec());
+        all.push([&text[..place], b"~", &text[place + 1..]].concat());
+    }
+    all
+}
