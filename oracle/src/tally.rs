@@ -126,6 +126,9 @@ pub fn report(classes: &[Class]) -> bool {
         }
     }
     let failed = classes.iter().filter(|class| !class.passed()).count();
+    if failed > 0 {
+        println!("The --seed above repeats this run; the smallest input that differs is to be understood first.");
+    }
     println!("{} passed, {failed} failed", classes.len() - failed);
     failed == 0
 }

@@ -106,12 +106,14 @@ impl Run {
     /// Compares the answers to one text: into a buffer with `spare` bytes too many, and into ones that are too short.
     fn compare(&mut self, class: &mut Class, text: &[u8], spare: usize) {
         let (end, expected) = self.met.expected(text);
-        if difference(text, end, &expected, spare).is_some() {
-            let smaller = if class.clean() { shrink(text, spare) } else { text.to_vec() };
-            class.differ(smaller.len(), || saved(&smaller, spare, self.classes.len()));
+        match answered(text, end, &expected, spare) {
+            Ok(too_short) => self.met.count("end 28", too_short),
+            Err(_) => {
+                let smaller = if class.clean() { shrink(text, spare) } else { text.to_vec() };
+                class.differ(smaller.len(), || saved(&smaller, spare, self.classes.len()));
+            }
         }
         class.agree();
-        self.met.count("end 28", 3);
     }
 
     /// One class for all that a run must have met.
@@ -125,30 +127,32 @@ impl Run {
     }
 }
 
-/// What is wrong with the port's answer to a text, if anything.
-fn difference(text: &[u8], end: End, expected: &[u8], spare: usize) -> Option<String> {
+/// How often the port said 28, in rooms that are too short; or what is wrong with its answers to a text.
+fn answered(text: &[u8], end: End, expected: &[u8], spare: usize) -> Result<u64, String> {
     let length = expected.len();
     let wanted = HubTrace { number: end.number, line: end.line.into(), length };
     let mut room = vec![0xa5; length + spare];
     if hub::trace(text, &mut room) != wanted || room[..length] != *expected {
-        return Some(first_difference(text, wanted, expected));
+        return Err(first_difference(text, wanted, expected));
     }
     if room[length..].iter().any(|&byte| byte != 0xa5) {
-        return Some("bytes behind the answer were changed".into());
+        return Err("bytes behind the answer were changed".into());
     }
     let counted = hub::trace_length(text);
     if counted != wanted {
-        return Some(format!("its length: hub {counted:?}, expected {wanted:?}"));
+        return Err(format!("its length: hub {counted:?}, expected {wanted:?}"));
     }
+    let mut too_short = 0;
     // The longest room that is too short, half of the length, and none.
     for short in [length - 1, length / 2, 0] {
         let mut room = vec![0xa5; length];
         let answer = hub::trace(text, &mut room[..short]);
         if answer != (HubTrace { number: 28, line: 0, length: 0 }) || room.iter().any(|&byte| byte != 0xa5) {
-            return Some(format!("with room for {short} of {length} bytes: hub {answer:?}, expected 28, 0, 0"));
+            return Err(format!("with room for {short} of {length} bytes: hub {answer:?}, expected 28, 0, 0"));
         }
+        too_short += u64::from(answer.number == 28);
     }
-    None
+    Ok(too_short)
 }
 
 /// Both ends, and the first line that differs; the port has room enough to say all.
@@ -164,11 +168,11 @@ fn first_difference(text: &[u8], wanted: HubTrace, expected: &[u8]) -> String {
     format!("hub {answer:?}, expected {wanted:?}; line {number} of the answer: hub \"{hub}\", expected \"{rust}\"")
 }
 
-/// `difference` from the text alone.
+/// What is wrong with the port's answers to a text, if anything.
 fn differs(text: &[u8], spare: usize) -> Option<String> {
     let mut expected = Vec::new();
     let end = trace::run(text, &mut expected);
-    difference(text, end, &expected, spare)
+    answered(text, end, &expected, spare).err()
 }
 
 /// Leaves out lines for as long as the answers still differ, runs of whole messages first, with at most 3000 trials.
