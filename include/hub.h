@@ -1,6 +1,6 @@
-/* hub.h: the hub's message monitor for callers in C11 and C++11. Link target/staticlib/libhub.a, which `rt staticlib hub`
- * proves and writes. The archive is for x86-64 Linux (ELF, System V calls), as position-independent code; besides the
- * functions below it needs memcpy and memset. bin/header holds this file and the archive to each other.
+/* hub.h: the hub's message monitor for callers in C11 and C++11. Link target/staticlib/libhub.a, which `rt staticlib
+ * hub` proves and writes. The archive is for x86-64 Linux (ELF, System V calls), as position-independent code; besides
+ * the functions below it needs memcpy and memset. bin/header holds this file and the archive to each other.
  *
  * The caller's duties, for every function here:
  * - a pointer is not null, also where the length beside it is 0;
@@ -12,9 +12,10 @@
  * Each call then returns, allocates nothing, keeps no pointer and has no state: equal arguments give equal answers, on
  * any thread. A bool is 0 or 1.
  *
- * Stack, in bytes below the caller, by measurement (rattle-kit-5b, x86-64; `bin/measure stack` measures again): hub_trace
- * and hub_trace_length reach 41,362, every other call at most 256, less not being told apart. Whole, cut and damaged
- * traces were tried; no function of the archive calls itself or has a frame that grows with its input. */
+ * Stack, in bytes below the caller, by measurement (rattle-kit-5b, x86-64; `bin/measure stack` measures again):
+ * hub_trace and hub_trace_length reach 41,362, every other call at most 256, less not being told apart. Whole, cut and
+ * damaged traces were tried; by the disassembly no function of the archive calls itself, no frame grows with its input,
+ * and the frames add up to no more. */
 #ifndef HUB_H
 #define HUB_H
 
@@ -44,8 +45,8 @@ struct HubClientHashes {
 
 /* How a trace ended. */
 struct HubTrace {
-    uint32_t number; /* 0 for a whole trace, else the number of its refusal, as in the answer's `end=` line; or 28, which
-                        has no such line, since nothing is written */
+    uint32_t number; /* 0 for a whole trace, else the number of its refusal, as in the answer's `end=` line; or 28,
+                        which has no such line, since nothing is written */
     uint64_t line;   /* the last line of a whole trace, else the refused one; 0 with 27 and 28 */
     size_t length;   /* how many bytes the answer has; 0 with 28 */
 };

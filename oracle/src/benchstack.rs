@@ -1,5 +1,5 @@
-//! benchstack FILE..: the deepest stack of every export of the archive, for bin/measure and include/hub.h. The files are
-//! traces; what the other calls are given is made here.
+//! benchstack FILE..: the deepest stack of every export of the archive, for bin/measure and include/hub.h. The files
+//! are traces; what the other calls are given is made here.
 
 mod hub;
 mod stack;
