@@ -162,7 +162,7 @@ pub mod state {
         true
     }
 
-    /// Sets a field of the record at a place, of a client only where there is one; false where there is none of this name.
+    /// Sets a field of the record at a place, of a client only where there is one; false where no field has this name.
     pub fn set_at(monitor: &mut MqttMonitor, field: &str, place: usize, value: u64) -> bool {
         match field {
             "rule_live" => monitor.rules[place].active = value == 1,

@@ -71,7 +71,7 @@ const MORE: [&str; 19] = [
     "bucket removed",
     "tracker removed",
     "pattern overwritten",
-    "stale pattern bytes",
+    "listed difference: bytes behind an added pattern",
     "rules shadowed",
     "id wrapped",
     "inspected at its cap",
@@ -126,7 +126,7 @@ impl Play<'_> {
                 self.met.count("tracker removed", (words[0] == "remove_ewma_tracker").into());
                 let overwritten = words[0] == "add_rule" && rules == monitor.rule_count();
                 self.met.count("pattern overwritten", overwritten.into());
-                self.met.count("stale pattern bytes", self.original.stale - stale);
+                self.met.count("listed difference: bytes behind an added pattern", self.original.stale - stale);
             }
             Answer::Refused(number) => {
                 let name = format!("{} refused {number}", words[0]);

@@ -32,7 +32,11 @@ pub const MAKERS: &[Maker] = &[
     ("names in every type", names, &["type 15", "kind 9", "kind 10", "kind 11", "inspect_claimed refused 9"]),
     ("by hand: counters", counters, &["id wrapped", "inspected at its cap", "alerts at their cap"]),
     ("by hand: number 10", number_10, &["inspect refused 10", "validate_rules refused 10"]),
-    ("by hand: records", records, &["stale pattern bytes", "255 samples", "kind 5", "kind 7"]),
+    (
+        "by hand: records",
+        records,
+        &["listed difference: bytes behind an added pattern", "255 samples", "kind 5", "kind 7"],
+    ),
 ];
 
 /// One script of a maker.
@@ -116,7 +120,10 @@ impl Scribe<'_> {
         let near = self.random.below(3) as u64;
         let monitor = &self.play.original.monitor;
         let marks: Vec<u64> = match self.random.below(16) {
-            0 => (0..32).filter_map(|place| Some(state::bucket(monitor, place)?.at + 299_999_999 + near)).collect(),
+            0 => {
+                let ends = (0..32).filter_map(|place| state::bucket(monitor, place));
+                ends.map(|bucket| bucket.at.saturating_add(299_999_999 + near)).collect()
+            }
             1 | 2 => {
                 let window = state::settings(monitor).2;
                 let stamps = (0..16).filter_map(|place| Some(state::window(monitor, place)?.stamps[place]));
@@ -218,6 +225,15 @@ fn publish(scribe: &mut Scribe) {
     scribe.step();
     let topic = scribe.topic();
     scribe.message(PUBLISH, &topic);
+}
+
+/// A topic that has no bucket, when the oldest bucket is about to expire or just has.
+fn publish_at_expiry(scribe: &mut Scribe) {
+    let buckets = (0..32).filter_map(|place| state::bucket(&scribe.play.original.monitor, place));
+    let oldest = buckets.map(|bucket| bucket.at).min().unwrap_or(0);
+    scribe.now = oldest.saturating_add(299_999_999 + scribe.random.below(3) as u64);
+    let topic = format!("m/new {}", scribe.random.below(1000));
+    scribe.message(PUBLISH, topic.as_bytes());
 }
 
 fn connect(scribe: &mut Scribe) {
@@ -340,7 +356,14 @@ fn buckets(scribe: &mut Scribe) {
     scribe.topics.extend(words(&["m/40", "m/41"]));
     scribe.patterns = words(&["#", "m/+", "m/1"]);
     scribe.rates = vec![0, 1, 2, 3, 1000, 65_535];
-    scribe.turns(&[(12, publish), (2, remove_bucket), (1, add_rule), (1, swap_rules), (1, any_type)]);
+    scribe.turns(&[
+        (12, publish),
+        (3, publish_at_expiry),
+        (1, remove_bucket),
+        (1, add_rule),
+        (1, swap_rules),
+        (1, any_type),
+    ]);
     if scribe.random.one_in(4) {
         scribe.line("reset_state".into());
         scribe.turns(&[(1, publish), (1, remove_bucket)]);

@@ -107,7 +107,8 @@ impl Run<'_> {
     }
 }
 
-/// What the program says to a text. It reads all of it before it says anything, so neither waits for the other.
+/// What the program says to a text. It reads all of it before it says anything, so neither waits for the other; what it
+/// did not read shows in what it says.
 fn said(program: &str, text: &str) -> Vec<u8> {
     assert!(text.len() <= LONGEST, "a script of {} bytes", text.len());
     let mut child = Command::new(program)
@@ -116,7 +117,7 @@ fn said(program: &str, text: &str) -> Vec<u8> {
         .spawn()
         .unwrap_or_else(|error| panic!("{program}: {error}"));
     let mut said = Vec::new();
-    child.stdin.take().expect("a pipe").write_all(text.as_bytes()).expect("the program reads");
+    let _ = child.stdin.take().expect("a pipe").write_all(text.as_bytes());
     child.stdout.take().expect("a pipe").read_to_end(&mut said).expect("the program writes");
     let status = child.wait().expect("the program ends");
     if !status.success() {
