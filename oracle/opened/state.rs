@@ -3,9 +3,10 @@
 
 /// The private state of a monitor.
 pub mod state {
-    use super::{MAX_CONNECT_WINDOW, MqttMonitor, QosPolicy, TopicAction};
+    use super::{EwmaTracker, MAX_CONNECT_WINDOW, MqttMonitor, QosPolicy, RateBucket, TopicAction, TopicRule};
 
     /// What tells the topic of a bucket or tracker from others.
+    #[derive(PartialEq)]
     pub struct Id {
         pub hash: u32,
         pub hash2: u32,
@@ -15,8 +16,10 @@ pub mod state {
         pub prefix: [u8; 32],
     }
 
-    /// A rule in use.
+    /// A rule.
+    #[derive(PartialEq)]
     pub struct Rule {
+        pub live: bool,
         pub pattern: [u8; 64],
         pub pattern_len: u8,
         pub action: TopicAction,
@@ -24,7 +27,27 @@ pub mod state {
         pub rate: u16,
     }
 
-    /// A client in use.
+    /// A bucket.
+    #[derive(PartialEq)]
+    pub struct Bucket {
+        pub live: bool,
+        pub tokens: u16,
+        pub capacity: u16,
+        pub at: u64,
+        pub id: Id,
+    }
+
+    /// A tracker.
+    #[derive(PartialEq)]
+    pub struct Tracker {
+        pub live: bool,
+        pub mean: u32,
+        pub samples: u8,
+        pub at: u64,
+        pub id: Id,
+    }
+
+    /// A client, which is always live.
     pub struct Window {
         pub hash: u32,
         pub hash2: u32,
@@ -40,47 +63,63 @@ pub mod state {
         (m.default_action, m.connect_storm_threshold, m.connect_storm_window_us, m.next_alert_id)
     }
 
-    /// The rule at a place, if it is in use.
+    /// A record, unless it is as a free one, live or not.
+    fn held<T: PartialEq>(record: T, free: T) -> Option<T> {
+        (record != free).then_some(record)
+    }
+
+    /// The rule at a place, if one stands there.
     pub fn rule(monitor: &MqttMonitor, place: usize) -> Option<Rule> {
-        let rule = &monitor.rules[place];
-        rule.active.then_some(Rule {
+        let all = |rule: &TopicRule| Rule {
+            live: rule.active,
             pattern: rule.pattern,
             pattern_len: rule.pattern_len,
             action: rule.action,
             policy: rule.qos_policy,
             rate: rule.max_rate_per_sec,
-        })
-    }
-
-    /// The tokens, capacity, time and topic of the bucket at a place, if it is in use.
-    pub fn bucket(monitor: &MqttMonitor, place: usize) -> Option<(u16, u16, u64, Id)> {
-        let bucket = &monitor.rate_buckets[place];
-        let id = Id {
-            hash: bucket.topic_hash,
-            hash2: bucket.topic_hash2,
-            len: bucket.topic_len,
-            suffix_hash: bucket.topic_suffix_hash,
-            prefix_len: bucket.topic_prefix_len,
-            prefix: bucket.topic_prefix,
         };
-        bucket.active.then_some((bucket.tokens, bucket.capacity, bucket.last_refill_us, id))
+        held(all(&monitor.rules[place]), all(&TopicRule::empty()))
     }
 
-    /// The mean, samples, time and topic of the tracker at a place, if it is in use.
-    pub fn tracker(monitor: &MqttMonitor, place: usize) -> Option<(u32, u8, u64, Id)> {
-        let tracker = &monitor.ewma_trackers[place];
-        let id = Id {
-            hash: tracker.topic_hash,
-            hash2: tracker.topic_hash2,
-            len: tracker.topic_len,
-            suffix_hash: tracker.topic_suffix_hash,
-            prefix_len: tracker.topic_prefix_len,
-            prefix: tracker.topic_prefix,
+    /// The bucket at a place, if one stands there.
+    pub fn bucket(monitor: &MqttMonitor, place: usize) -> Option<Bucket> {
+        let all = |bucket: &RateBucket| Bucket {
+            live: bucket.active,
+            tokens: bucket.tokens,
+            capacity: bucket.capacity,
+            at: bucket.last_refill_us,
+            id: Id {
+                hash: bucket.topic_hash,
+                hash2: bucket.topic_hash2,
+                len: bucket.topic_len,
+                suffix_hash: bucket.topic_suffix_hash,
+                prefix_len: bucket.topic_prefix_len,
+                prefix: bucket.topic_prefix,
+            },
         };
-        tracker.active.then_some((tracker.mean_x256, tracker.sample_count, tracker.last_update_us, id))
+        held(all(&monitor.rate_buckets[place]), all(&RateBucket::empty()))
     }
 
-    /// The client at a place, if it is in use.
+    /// The tracker at a place, if one stands there.
+    pub fn tracker(monitor: &MqttMonitor, place: usize) -> Option<Tracker> {
+        let all = |tracker: &EwmaTracker| Tracker {
+            live: tracker.active,
+            mean: tracker.mean_x256,
+            samples: tracker.sample_count,
+            at: tracker.last_update_us,
+            id: Id {
+                hash: tracker.topic_hash,
+                hash2: tracker.topic_hash2,
+                len: tracker.topic_len,
+                suffix_hash: tracker.topic_suffix_hash,
+                prefix_len: tracker.topic_prefix_len,
+                prefix: tracker.topic_prefix,
+            },
+        };
+        held(all(&monitor.ewma_trackers[place]), all(&EwmaTracker::empty()))
+    }
+
+    /// The client at a place, if one stands there.
     pub fn window(monitor: &MqttMonitor, place: usize) -> Option<Window> {
         monitor.client_hashes[place].map(|entry| Window {
             hash: entry.client_hash,
@@ -90,6 +129,15 @@ pub mod state {
             next: entry.write_idx,
             last_seen: entry.last_seen_us,
         })
+    }
+
+    /// Sets the bytes behind a rule's pattern to zero; false where all are.
+    pub fn clear_behind(monitor: &mut MqttMonitor, place: usize) -> bool {
+        let rule = &mut monitor.rules[place];
+        let behind = &mut rule.pattern[rule.pattern_len as usize..];
+        let stale = behind.iter().any(|&byte| byte != 0);
+        behind.fill(0);
+        stale
     }
 
     /// Sets the bytes and the length of the rule at a place.
@@ -114,7 +162,7 @@ pub mod state {
         true
     }
 
-    /// Sets a field of the record at a place; false where there is none of this name, or no client at the place.
+    /// Sets a field of the record at a place, of a client only where there is one; false where no field has this name.
     pub fn set_at(monitor: &mut MqttMonitor, field: &str, place: usize, value: u64) -> bool {
         match field {
             "rule_live" => monitor.rules[place].active = value == 1,
@@ -127,7 +175,7 @@ pub mod state {
             "mean" => monitor.ewma_trackers[place].mean_x256 = value as u32,
             "samples" => monitor.ewma_trackers[place].sample_count = value as u8,
             "window_count" | "window_next" => {
-                let Some(entry) = &mut monitor.client_hashes[place] else { return false };
+                let Some(entry) = &mut monitor.client_hashes[place] else { return true };
                 if field == "window_count" { entry.count = value as u8 } else { entry.write_idx = value as u8 }
             }
             _ => return false,

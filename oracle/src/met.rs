@@ -5,11 +5,11 @@ use std::collections::BTreeMap;
 use trace::End;
 use vs_mqtt_monitor::{MqttInspectResult, MqttMonitor, opened};
 
-const KINDS: [&str; 12] = [
+pub const KINDS: [&str; 12] = [
     "kind 0", "kind 1", "kind 2", "kind 3", "kind 4", "kind 5", "kind 6", "kind 7", "kind 8", "kind 9", "kind 10",
     "kind 11",
 ];
-const PLACES: [&str; 4] = ["bucket replaced", "bucket expired", "client replaced", "tracker replaced"];
+pub const PLACES: [&str; 4] = ["bucket replaced", "bucket expired", "client replaced", "tracker replaced"];
 const ENDS: [&str; 9] = ["end 0", "end 9", "end 21", "end 22", "end 23", "end 24", "end 25", "end 26", "end 27"];
 
 /// How often each thing was met.
@@ -59,7 +59,7 @@ impl Met {
         (end, out)
     }
 
-    fn count_alerts(&mut self, result: &MqttInspectResult) {
+    pub fn count_alerts(&mut self, result: &MqttInspectResult) {
         assert_eq!(result.alerts_dropped, 0);
         for alert in &result.alerts[..result.alert_count as usize] {
             self.count(KINDS[alert.source_id as usize], 1);
@@ -69,7 +69,7 @@ impl Met {
     }
 
     /// Counts the places that went from one holder to another.
-    fn count_places(
+    pub fn count_places(
         &mut self,
         before: [opened::Holder; 64],
         monitor: &MqttMonitor,

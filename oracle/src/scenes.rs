@@ -79,7 +79,7 @@ impl Pairs {
         pairs
     }
 
-    fn pick(&self, random: &mut Random) -> &Pair {
+    pub fn pick(&self, random: &mut Random) -> &Pair {
         let kind = [&self.apart, &self.one, &self.one, &self.by_length][random.below(4)];
         &kind[random.below(kind.len())]
     }
@@ -107,7 +107,7 @@ fn completed(start: &[u8], target: u32) -> Vec<u8> {
 }
 
 /// The topic with its last block made another: djb2 stays, FNV-1a does not.
-fn reblocked(topic: &[u8]) -> Vec<u8> {
+pub fn reblocked(topic: &[u8]) -> Vec<u8> {
     let which = |two: &[u8]| BLOCKS.iter().position(|block| block == two);
     let place = topic.windows(2).rposition(|two| which(two).is_some()).expect("a topic of blocks");
     let next = which(&topic[place..place + 2]).map_or(0, |block| (block + 1) % 3);

@@ -1,9 +1,9 @@
 // A rule's action and QoS policy, and a message's QoS, as the trace writes them.
-use crate::say::say;
-use crate::say::say_number;
+use crate::say::put_number;
 use cut::args::arg;
 use cut::args::is;
 use cut::args::number;
+use lines::put;
 use lines::value;
 use lines::value::Number;
 use tables::rules::MqttQoS;
@@ -53,26 +53,27 @@ pub fn policy(q: &[u8], k: usize) -> QosPolicy {
     }
 }
 
-pub fn say_action(action: TopicAction) {
+// An action's place among the words b"allow|block".
+pub fn action_place(action: TopicAction) -> usize {
     match action {
-        TopicAction::Allow => say(b" action=allow"),
-        TopicAction::Block => say(b" action=block"),
+        TopicAction::Allow => 0,
+        TopicAction::Block => 1,
     }
 }
 
 // A level's number, behind the kind of policy that names it.
-fn say_level(kind: &[u8], level: MqttQoS) {
+fn put_level(out: &mut [u8], at: usize, kind: &[u8], level: MqttQoS) -> usize {
     match level {
-        MqttQoS::AtMostOnce => say_number(kind, 0),
-        MqttQoS::AtLeastOnce => say_number(kind, 1),
-        MqttQoS::ExactlyOnce => say_number(kind, 2),
+        MqttQoS::AtMostOnce => put_number(out, at, kind, 0),
+        MqttQoS::AtLeastOnce => put_number(out, at, kind, 1),
+        MqttQoS::ExactlyOnce => put_number(out, at, kind, 2),
     }
 }
 
-pub fn say_policy(policy: QosPolicy) {
+pub fn put_policy(out: &mut [u8], at: usize, policy: QosPolicy) -> usize {
     match policy {
-        QosPolicy::Any => say(b" any"),
-        QosPolicy::MinQoS(level) => say_level(b"min", level),
-        QosPolicy::ExactQoS(level) => say_level(b"only", level),
+        QosPolicy::Any => put::put_bytes(out, at, b" any"),
+        QosPolicy::MinQoS(level) => put_level(out, at, b"min", level),
+        QosPolicy::ExactQoS(level) => put_level(out, at, b"only", level),
     }
 }

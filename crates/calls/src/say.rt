@@ -1,38 +1,66 @@
-// What an answer is written with.
+// What an answer is written with. What belongs together is put into a buffer and written at once: a call of the system for each word would take most of the time.
 use cut::upto;
 use libc::STDOUT_FILENO;
 use lines::put;
 use monitor::state::Called;
 use monitor::state::MqttMonitor;
 use monitor::state::Outcome;
+ghost use mathlib.Core.Path.{_≡_};
+ghost use lib.ListN.{length};
 
 // Bytes as they are.
 pub fn say(s: &[u8]) {
     io::write_all(STDOUT_FILENO, s);
 }
 
-// A name with a number.
-pub fn say_number(name: &[u8], n: u64) {
-    say(b" ");
-    say(name);
-    say(b"=");
-    io::print_decimal(STDOUT_FILENO, n);
+// Room for the longest record: a window with 16 stamps.
+pub fn room() -> [u8; 512]
+    ensures { λ r. ⌜ 512 ≡ length r ⌝ }
+{
+    [0; 512]
 }
 
-// A name with bytes in hex, at most 64 of them.
+// A name with a number, from `at` on; the place after it.
+pub fn put_number(out: &mut [u8], at: usize, name: &[u8], n: u64) -> usize {
+    let key = put_key(out, at, name);
+    put::put_decimal(out, key, n)
+}
+
+// A name with bytes in hex, likewise.
+pub fn put_hex(out: &mut [u8], at: usize, name: &[u8], bytes: &[u8]) -> usize {
+    let key = put_key(out, at, name);
+    put::put_hex(out, key, bytes)
+}
+
+fn put_key(out: &mut [u8], at: usize, name: &[u8]) -> usize {
+    let blank = put::put_byte(out, at, b' ');
+    let key = put::put_bytes(out, blank, name);
+    put::put_byte(out, key, b'=')
+}
+
+// A name with a number.
+pub fn say_number(name: &[u8], n: u64) {
+    let mut space = room();
+    let out: &mut [u8] = &mut space;
+    let end = put_number(out, 0, name, n);
+    say(upto(out, end));
+}
+
+// A name with bytes in hex.
 pub fn say_hex(name: &[u8], bytes: &[u8]) {
-    let mut out = [0u8; 128];
-    let n = put::put_hex(&mut out, 0, bytes);
-    say(b" ");
-    say(name);
-    say(b"=");
-    say(upto(&out, n));
+    let mut space = room();
+    let out: &mut [u8] = &mut space;
+    let end = put_hex(out, 0, name, bytes);
+    say(upto(out, end));
 }
 
 // The place of a record, on a line of its own.
 pub fn say_place(at: usize) {
-    say(b"\n   ");
-    io::print_decimal(STDOUT_FILENO, at as u64);
+    let mut space = room();
+    let out: &mut [u8] = &mut space;
+    let start = put::put_bytes(out, 0, b"\n   ");
+    let end = put::put_decimal(out, start, at as u64);
+    say(upto(out, end));
 }
 
 // How a call ended.

@@ -73,7 +73,11 @@ fn set_tracker(tracker: EwmaTracker, name: &[u8], q: &[u8]) -> EwmaTracker {
     next
 }
 
+// Only of a client that is there: the Rust has no others.
 fn set_window(entry: ClientStormEntry, name: &[u8], q: &[u8]) -> ClientStormEntry {
+    if !entry.active {
+        return entry;
+    }
     let mut next = entry;
     if is(name, b"window_count") {
         next.count = number8(q, 2);

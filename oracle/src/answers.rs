@@ -1,0 +1,310 @@
+//! What the Rust original answers to a line of a script, as crates/calls writes the port's answer. Three things are not
+//! the original's, which has no such number or leaves such bytes: 10 for a state that no call hands out, 9 for a lent
+//! topic or payload shorter than the part used, and zeros behind the pattern of a rule that is added
+//! (docs/DIFFERENCES.md). A line that is not understood, or a field that there is not, ends the program.
+
+use std::fmt::{Display, Formatter, Result as Written};
+use vs_mqtt_monitor::state::{self, Id};
+use vs_mqtt_monitor::{MqttInspectResult, MqttMonitor, QosPolicy, TopicAction};
+use vs_types::VsError;
+use vs_types_embedded::{MonitorReset, MqttMessage, MqttPacketType, MqttQoS, opened};
+
+/// Fields that a script may set.
+const FIELDS: [&str; 6] = ["next_id", "total_inspected", "total_alerts", "threshold", "window", "rule_count"];
+
+/// Fields of a record that a script may set.
+const RECORD_FIELDS: [&str; 11] = [
+    "rule_live",
+    "rule_length",
+    "bucket_live",
+    "bucket_prefix",
+    "tokens",
+    "tracker_live",
+    "tracker_prefix",
+    "mean",
+    "samples",
+    "window_count",
+    "window_next",
+];
+
+/// The tables that a script may look at, with their places.
+const TABLES: [(&str, usize); 4] = [("rules", 32), ("buckets", 32), ("trackers", 16), ("windows", 16)];
+
+/// What stands behind a line.
+pub enum Answer {
+    Text(String),
+    Done(u16),
+    Refused(u32),
+    Inspected(MqttInspectResult),
+}
+
+impl Display for Answer {
+    fn fmt(&self, out: &mut Formatter) -> Written {
+        match self {
+            Answer::Text(text) => write!(out, "{text}"),
+            Answer::Done(number) => write!(out, " done={number}"),
+            Answer::Refused(number) => write!(out, " refused={number}"),
+            Answer::Inspected(result) => {
+                write!(out, " allowed={} alerts={}", result.allowed as u8, result.alert_count)?;
+                for (place, alert) in result.alerts[..result.alert_count as usize].iter().enumerate() {
+                    let (id, kind, severity) = (alert.id, alert.source_id, alert.severity as u32);
+                    let (at, hash) = (alert.timestamp_us, hex(&alert.payload_hash.0));
+                    write!(out, "\n   {place} id={id} kind={kind} severity={severity} at={at} hash={hash}")?;
+                }
+                Ok(())
+            }
+        }
+    }
+}
+
+impl From<Result<u16, VsError>> for Answer {
+    fn from(result: Result<u16, VsError>) -> Answer {
+        match result {
+            Ok(number) => Answer::Done(number),
+            Err(error) => Answer::Refused(error as u32),
+        }
+    }
+}
+
+/// What stands behind a call's name.
+struct Args<'a>(Vec<&'a str>);
+
+impl Args<'_> {
+    fn number(&self, k: usize) -> u64 {
+        self.0[k].parse().expect(self.0[k])
+    }
+
+    /// A number that fits its field.
+    fn small(&self, k: usize, bits: u32) -> u64 {
+        let number = self.number(k);
+        assert!(number >> bits == 0, "{number} has more than {bits} bits");
+        number
+    }
+
+    fn bytes(&self, k: usize) -> Vec<u8> {
+        let digits = self.0[k];
+        assert!(digits.len() % 2 == 0, "{digits}");
+        (0..digits.len() / 2).map(|i| u8::from_str_radix(&digits[2 * i..2 * i + 2], 16).expect(digits)).collect()
+    }
+
+    fn action(&self, k: usize) -> TopicAction {
+        match self.0[k] {
+            "allow" => TopicAction::Allow,
+            "block" => TopicAction::Block,
+            word => panic!("no action: {word}"),
+        }
+    }
+
+    fn policy(&self, k: usize) -> QosPolicy {
+        let level = |digit: &str| MqttQoS::from_raw(digit.parse().expect(digit)).expect(digit);
+        match self.0[k] {
+            "any" => QosPolicy::Any,
+            word if word.starts_with("min") => QosPolicy::MinQoS(level(&word[3..])),
+            word => QosPolicy::ExactQoS(level(word.strip_prefix("only").expect(word))),
+        }
+    }
+}
+
+/// Why number 10 refuses a state, if it does.
+pub fn no_call_hands_out(monitor: &MqttMonitor) -> Option<&'static str> {
+    if monitor.rule_count() > 32 {
+        return Some("10: rule count over 32");
+    }
+    for place in 0..monitor.rule_count() {
+        let Some(rule) = state::rule(monitor, place).filter(|rule| rule.live) else {
+            return Some("10: a rule that counts is not live");
+        };
+        let Some(pattern) = rule.pattern.get(..rule.pattern_len as usize) else {
+            return Some("10: pattern length over 64");
+        };
+        if MqttMonitor::new().add_rule(pattern, TopicAction::Allow, QosPolicy::Any, 0).is_err() {
+            return Some("10: a pattern that add_rule refuses");
+        }
+    }
+    let long = |live, id: Id| live && id.prefix_len > 32;
+    if (0..32).any(|place| state::bucket(monitor, place).is_some_and(|bucket| long(bucket.live, bucket.id))) {
+        return Some("10: a bucket's prefix length over 32");
+    }
+    if (0..16).any(|place| state::tracker(monitor, place).is_some_and(|tracker| long(tracker.live, tracker.id))) {
+        return Some("10: a tracker's prefix length over 32");
+    }
+    let over = (0..16).any(|place| state::window(monitor, place).is_some_and(|window| window.count > 16));
+    over.then_some("10: a window's count over 16")
+}
+
+/// The original, as a script leaves it.
+pub struct Original {
+    pub monitor: MqttMonitor,
+    /// Rules that were added over bytes of another pattern: the original leaves those behind the new one's.
+    pub stale: u64,
+}
+
+impl Original {
+    pub fn new() -> Original {
+        Original { monitor: MqttMonitor::new(), stale: 0 }
+    }
+
+    /// A line's answer: what any state takes first.
+    pub fn answer(&mut self, line: &str) -> Answer {
+        let mut words = line.split(' ');
+        let name = words.next().unwrap_or_default();
+        let args = &Args(words.map(|word| if word == "-" { "" } else { word }).collect());
+        let monitor = &mut self.monitor;
+        let mut text = String::new();
+        match name {
+            "new" => *monitor = MqttMonitor::new(),
+            "new_deny_default" => *monitor = MqttMonitor::new_deny_default(),
+            "counters" => {
+                let (inspected, alerts) = (monitor.total_inspected(), monitor.total_alerts());
+                text = format!(" inspected={inspected} alerts={alerts} rules={}", monitor.rule_count());
+            }
+            "state" | "rules" | "buckets" | "trackers" | "windows" | "all" => text = look(monitor, name),
+            "rule_pattern" => state::set_pattern(monitor, args.number(0) as usize, &args.bytes(1)),
+            _ if FIELDS.contains(&name) => assert!(state::set(monitor, name, args.number(0)), "{name}"),
+            _ if RECORD_FIELDS.contains(&name) => {
+                assert!(state::set_at(monitor, name, args.number(0) as usize, args.number(1)), "{name}");
+            }
+            _ if no_call_hands_out(monitor).is_some() => return Answer::Refused(10),
+            _ => return self.call(name, args),
+        }
+        Answer::Text(text)
+    }
+
+    /// A call on a state that calls hand out.
+    fn call(&mut self, name: &str, args: &Args) -> Answer {
+        let monitor = &mut self.monitor;
+        let result = match name {
+            "add_rule" => return self.add_rule(args),
+            "remove_rule" => monitor.remove_rule(args.number(0) as usize).map(|()| 0),
+            "swap_rules" => monitor.swap_rules(args.number(0) as usize, args.number(1) as usize).map(|()| 0),
+            "clear_rules" => {
+                monitor.clear_rules();
+                Ok(0)
+            }
+            "validate_rules" => Ok(monitor.validate_rules()),
+            "set_connect_storm_params" => {
+                monitor.set_connect_storm_params(args.small(0, 8) as u8, args.number(1));
+                Ok(0)
+            }
+            "remove_rate_bucket" => monitor.remove_rate_bucket(&args.bytes(0)).map(|()| 0),
+            "remove_ewma_tracker" => monitor.remove_ewma_tracker(&args.bytes(0)).map(|()| 0),
+            "reset_state" => {
+                monitor.reset_state();
+                Ok(0)
+            }
+            "inspect" | "inspect_claimed" => return inspect(monitor, name == "inspect_claimed", args),
+            _ => panic!("not understood: {name}"),
+        };
+        result.into()
+    }
+
+    /// A rule; what the original leaves behind a new pattern is made zero, as here.
+    fn add_rule(&mut self, args: &Args) -> Answer {
+        let (place, rate) = (self.monitor.rule_count(), args.small(3, 16) as u16);
+        let result = self.monitor.add_rule(&args.bytes(0), args.action(1), args.policy(2), rate);
+        if self.monitor.rule_count() > place && state::clear_behind(&mut self.monitor, place) {
+            self.stale += 1;
+        }
+        result.into()
+    }
+}
+
+/// A message: its result with every alert.
+fn inspect(monitor: &mut MqttMonitor, claimed: bool, args: &Args) -> Answer {
+    let (topic, payload) = (args.bytes(4), args.bytes(6));
+    let (mut topic_len, mut payload_len) = (topic.len(), payload.len());
+    if claimed {
+        (topic_len, payload_len) = (args.small(7, 8) as usize, args.small(8, 16) as usize);
+    }
+    if topic.len() < topic_len.min(128) || payload.len() < payload_len.min(256) {
+        return Err(VsError::InvalidInput).into();
+    }
+    let mut message = MqttMessage {
+        timestamp_us: args.number(0),
+        packet_type: MqttPacketType::from_raw(args.number(2) as u8).expect("a packet type"),
+        qos: MqttQoS::from_raw(args.number(3) as u8).expect("a level"),
+        topic_len: topic_len as u8,
+        payload_len: args.small(5, 16) as u16,
+        payload_inspectable_len: payload_len as u16,
+        ..MqttMessage::default()
+    };
+    message.topic[..topic.len()].copy_from_slice(&topic);
+    message.payload[..payload.len()].copy_from_slice(&payload);
+    opened::set_verdict(args.0[1] == "ok");
+    Answer::Inspected(monitor.inspect(&message))
+}
+
+pub fn hex(bytes: &[u8]) -> String {
+    let digit = |n: u8| char::from(b"0123456789abcdef"[n as usize]);
+    bytes.iter().flat_map(|byte| [digit(byte / 16), digit(byte % 16)]).collect()
+}
+
+/// Bytes in hex up to the last that is not zero.
+fn used(bytes: &[u8]) -> String {
+    let used = bytes.iter().rposition(|&byte| byte != 0).map_or(0, |last| last + 1);
+    hex(&bytes[..used])
+}
+
+fn action_word(action: TopicAction) -> &'static str {
+    if action == TopicAction::Allow { "allow" } else { "block" }
+}
+
+fn policy_words(policy: QosPolicy) -> String {
+    match policy {
+        QosPolicy::Any => "any".into(),
+        QosPolicy::MinQoS(level) => format!("min={}", level as u8),
+        QosPolicy::ExactQoS(level) => format!("only={}", level as u8),
+    }
+}
+
+fn id_words(id: &Id) -> String {
+    let (first, bytes) = (id.prefix_len, used(&id.prefix));
+    format!("hash={} hash2={} len={} suffix={} first={first} bytes={bytes}", id.hash, id.hash2, id.len, id.suffix_hash)
+}
+
+/// The record of a table at a place, unless it is as a free one.
+fn record(monitor: &MqttMonitor, table: &str, place: usize) -> Option<String> {
+    Some(match table {
+        "rules" => {
+            let rule = state::rule(monitor, place)?;
+            let (live, pattern, length) = (rule.live as u8, used(&rule.pattern), rule.pattern_len);
+            let (action, policy) = (action_word(rule.action), policy_words(rule.policy));
+            format!("live={live} pattern={pattern} length={length} action={action} {policy} rate={}", rule.rate)
+        }
+        "buckets" => {
+            let state::Bucket { live, tokens, capacity, at, id } = state::bucket(monitor, place)?;
+            format!("live={} tokens={tokens} capacity={capacity} at={at} {}", live as u8, id_words(&id))
+        }
+        "trackers" => {
+            let state::Tracker { live, mean, samples, at, id } = state::tracker(monitor, place)?;
+            format!("live={} mean={mean} samples={samples} at={at} {}", live as u8, id_words(&id))
+        }
+        _ => {
+            let state::Window { hash, hash2, stamps, count, next, last_seen } = state::window(monitor, place)?;
+            let stamps: String = stamps.iter().map(|stamp| format!(" {stamp}")).collect();
+            format!("live=1 count={count} next={next} at={last_seen} hash={hash} hash2={hash2} stamps{stamps}")
+        }
+    })
+}
+
+/// What stands in no table, in the places of one that are not free, or all of it.
+fn look(monitor: &MqttMonitor, what: &str) -> String {
+    let mut text = String::new();
+    if what == "state" || what == "all" {
+        let (action, threshold, window, next_id) = state::settings(monitor);
+        let (action, rules) = (action_word(action), monitor.rule_count());
+        let (inspected, alerts) = (monitor.total_inspected(), monitor.total_alerts());
+        text += &format!(" action={action} threshold={threshold} window={window} next_id={next_id}");
+        text += &format!(" inspected={inspected} alerts={alerts} rules={rules}");
+    }
+    for (table, places) in TABLES {
+        if what == "all" {
+            text += &format!("\n  {table}");
+        }
+        if what == table || what == "all" {
+            let records = (0..places).filter_map(|place| Some((place, record(monitor, table, place)?)));
+            records.for_each(|(place, record)| text += &format!("\n   {place} {record}"));
+        }
+    }
+    text
+}

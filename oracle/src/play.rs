@@ -1,0 +1,178 @@
+//! One script through the Rust original: its text, with a look at the whole state behind each line, what the original
+//! says to it, and what happened on the way.
+
+use crate::answers::{Answer, Original, no_call_hands_out};
+use crate::met::{KINDS, Met, PLACES};
+use vs_mqtt_monitor::{opened, state};
+
+/// Every public call of the monitor. `inspect_claimed` is `inspect` with claimed lengths, `counters` are three calls.
+const CALLS: [&str; 14] = [
+    "new",
+    "new_deny_default",
+    "add_rule",
+    "remove_rule",
+    "swap_rules",
+    "clear_rules",
+    "validate_rules",
+    "set_connect_storm_params",
+    "inspect",
+    "inspect_claimed",
+    "remove_rate_bucket",
+    "remove_ewma_tracker",
+    "reset_state",
+    "counters",
+];
+
+const TYPES: [&str; 15] = [
+    "type 1", "type 2", "type 3", "type 4", "type 5", "type 6", "type 7", "type 8", "type 9", "type 10", "type 11",
+    "type 12", "type 13", "type 14", "type 15",
+];
+
+/// Every refusal that document 01 has of each call.
+const REFUSALS: [&str; 18] = [
+    "add_rule refused 6",
+    "add_rule refused 9",
+    "remove_rule refused 9",
+    "swap_rules refused 9",
+    "inspect_claimed refused 9",
+    "remove_rate_bucket refused 7",
+    "remove_ewma_tracker refused 7",
+    "add_rule refused 10",
+    "remove_rule refused 10",
+    "swap_rules refused 10",
+    "clear_rules refused 10",
+    "validate_rules refused 10",
+    "set_connect_storm_params refused 10",
+    "inspect refused 10",
+    "inspect_claimed refused 10",
+    "remove_rate_bucket refused 10",
+    "remove_ewma_tracker refused 10",
+    "reset_state refused 10",
+];
+
+/// Why a state is refused with 10.
+const REASONS: [&str; 7] = [
+    "10: rule count over 32",
+    "10: a rule that counts is not live",
+    "10: pattern length over 64",
+    "10: a pattern that add_rule refuses",
+    "10: a bucket's prefix length over 32",
+    "10: a tracker's prefix length over 32",
+    "10: a window's count over 16",
+];
+
+const MORE: [&str; 19] = [
+    "four alerts at once",
+    "hash in an alert",
+    "32 rules",
+    "32 buckets",
+    "16 clients",
+    "16 trackers",
+    "bucket removed",
+    "tracker removed",
+    "pattern overwritten",
+    "listed difference: bytes behind an added pattern",
+    "rules shadowed",
+    "id wrapped",
+    "inspected at its cap",
+    "alerts at their cap",
+    "clock back",
+    "mean at its ceiling",
+    "sum at its cap",
+    "255 samples",
+    "window of 16",
+];
+
+/// What all scripts together must have met.
+pub fn all() -> impl Iterator<Item = &'static str> {
+    let kinds = KINDS[1..].iter().copied();
+    CALLS.into_iter().chain(TYPES).chain(REFUSALS).chain(REASONS).chain(kinds).chain(PLACES).chain(MORE)
+}
+
+/// A script on its way.
+pub struct Play<'a> {
+    pub original: Original,
+    met: &'a mut Met,
+    /// The lines so far.
+    pub lines: Vec<String>,
+    /// The answers so far.
+    pub said: String,
+    last_at: u64,
+}
+
+impl Play<'_> {
+    pub fn new(met: &mut Met) -> Play<'_> {
+        Play { original: Original::new(), met, lines: Vec::new(), said: String::new(), last_at: 0 }
+    }
+
+    /// One line more.
+    pub fn line(&mut self, line: String) {
+        let holders = opened::holders(&self.original.monitor);
+        let (rules, reason) = (self.original.monitor.rule_count(), no_call_hands_out(&self.original.monitor));
+        let (next_id, stale) = (state::settings(&self.original.monitor).3, self.original.stale);
+        let answer = self.original.answer(&line);
+        self.said += &format!("{line} ->{answer}\nall ->{}\n", self.original.answer("all"));
+        let words: Vec<&str> = line.split(' ').collect();
+        if let Some(call) = CALLS.iter().find(|call| **call == words[0]) {
+            self.met.count(call, 1);
+            self.met.count("calls", 1);
+        }
+        let monitor = &self.original.monitor;
+        match &answer {
+            Answer::Text(_) => {}
+            Answer::Done(shadowed) => {
+                self.met.count("rules shadowed", (*shadowed > 0).into());
+                self.met.count("bucket removed", (words[0] == "remove_rate_bucket").into());
+                self.met.count("tracker removed", (words[0] == "remove_ewma_tracker").into());
+                let overwritten = words[0] == "add_rule" && rules == monitor.rule_count();
+                self.met.count("pattern overwritten", overwritten.into());
+                self.met.count("listed difference: bytes behind an added pattern", self.original.stale - stale);
+            }
+            Answer::Refused(number) => {
+                let name = format!("{} refused {number}", words[0]);
+                self.met.count(REFUSALS.iter().find(|known| **known == name).expect(&name), 1);
+                if let (10, Some(reason)) = (number, reason) {
+                    self.met.count(reason, 1);
+                }
+            }
+            Answer::Inspected(result) => {
+                let (at, kind) = (words[1].parse().expect("a time"), words[3].parse::<usize>().expect("a type"));
+                self.met.count(TYPES[kind - 1], 1);
+                self.met.count("clock back", (at < self.last_at).into());
+                self.last_at = at;
+                self.met.count_alerts(result);
+                self.met.count_places(holders, monitor, result);
+                self.met.count("id wrapped", (state::settings(monitor).3 < next_id).into());
+                self.met.count("inspected at its cap", (monitor.total_inspected() == u64::MAX).into());
+                let at_cap = monitor.total_alerts() == u64::MAX && result.alert_count > 0;
+                self.met.count("alerts at their cap", at_cap.into());
+            }
+        }
+        self.count_tables();
+        self.lines.push(line);
+    }
+
+    /// Counts what a state has reached, whichever call led there.
+    fn count_tables(&mut self) {
+        let monitor = &self.original.monitor;
+        let holders = opened::holders(monitor);
+        let full = |places: std::ops::Range<usize>| holders[places].iter().all(Option::is_some).into();
+        self.met.count("32 rules", (monitor.rule_count() == 32).into());
+        self.met.count("32 buckets", full(0..32));
+        self.met.count("16 clients", full(32..48));
+        self.met.count("16 trackers", full(48..64));
+        for tracker in (0..16).filter_map(|place| state::tracker(monitor, place)) {
+            self.met.count("mean at its ceiling", (tracker.samples > 8 && tracker.mean == 65_536).into());
+            self.met.count("sum at its cap", (tracker.samples < 8 && tracker.mean == 524_288).into());
+            self.met.count("255 samples", (tracker.samples == 255).into());
+        }
+        for window in (0..16).filter_map(|place| state::window(monitor, place)) {
+            self.met.count("window of 16", (window.count == 16).into());
+        }
+    }
+
+    /// The script as the program reads it: each line with a look at the whole state behind it.
+    pub fn text(&self) -> String {
+        self.lines.iter().map(|line| format!("{line}\nall\n")).collect()
+    }
+}
