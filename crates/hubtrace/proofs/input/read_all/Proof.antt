@@ -1,5 +1,5 @@
 -- `read_all` meets its contract. The loop's invariant: the bytes that were read lie within the buffer, which keeps its length. The measure is the turns that are left. Assumes nothing.
-use Prim.Native.Nat.{_≤_}
+use Prim.Native.Nat.{_+_, _≤_}
 use mathlib.Core.Path.{_≡_}
 use native.Mathlib.Omega.{arith}
 use borrow.Author.Needs.{needs}
@@ -68,14 +68,22 @@ same-length-3 c = search needs
 returns-3 : tie.Need-returns-3 Inv-loop μ-loop
 returns-3 c = search needs
 
+-- where this turn of the loop began
+abbrev head : tie.Else2 Inv-loop μ-loop → tie.At-loop Inv-loop μ-loop
+head c = c .before .before .before .before .before .before .before .before .before .before
+
+-- what this turn moved lies within the buffer too
+within : (c : tie.Else2 Inv-loop μ-loop) → (head c) .loop .n + c .before .before .turn .given .0 .0 ≤ length ((head c) .loop .buf)
+within c = moved-within _ _ ((head c) .loop .n) ((head c) .loop .buf) ((head c) .loop .inv .0) (c .before .before .turn .given .1) (c .before .before .before .before .before .before .read-once .ensures)
+
 add-n : tie.Need-add-n Inv-loop μ-loop
-add-n c = omega (arith, moved-within _ _ (c .before .before .before .before .before .before .before .before .before .before .loop .n) (c .before .before .before .before .before .before .before .before .before .before .loop .buf) (c .before .before .before .before .before .before .before .before .before .before .loop .inv .0) (c .before .before .turn .given .1) (c .before .before .before .before .before .before .read-once .ensures))
+add-n c = omega (arith, within c)
 
 loop-less-2 : tie.Need-loop-less-2 Inv-loop μ-loop
 loop-less-2 c = search needs
 
 loop-again-2 : tie.Need-loop-again-2 Inv-loop μ-loop
-loop-again-2 c = (omega (arith, moved-within _ _ (c .before .before .before .before .before .before .before .before .before .before .loop .n) (c .before .before .before .before .before .before .before .before .before .before .loop .buf) (c .before .before .before .before .before .before .before .before .before .before .loop .inv .0) (c .before .before .turn .given .1) (c .before .before .before .before .before .before .read-once .ensures)), search needs)
+loop-again-2 c = (omega (arith, within c), search needs)
 
 same-length-4 : tie.Need-same-length-4 Inv-loop μ-loop
 same-length-4 c = search needs

@@ -1,5 +1,5 @@
 -- `write_all` meets its contract. The loop's invariant: no more bytes were taken than there are. The measure is the turns that are left. Assumes nothing.
-use Prim.Native.Nat.{_≤_}
+use Prim.Native.Nat.{_+_, _≤_}
 use mathlib.Core.Path.{_≡_}
 use native.Mathlib.Omega.{arith}
 use borrow.Author.Needs.{needs}
@@ -59,14 +59,22 @@ enum-known-turn c = search needs
 returns-3 : tie.Need-returns-3 Inv-loop μ-loop
 returns-3 c = search needs
 
+-- where this turn of the loop began
+abbrev head : tie.Else2 Inv-loop μ-loop → tie.At-loop Inv-loop μ-loop
+head c = c .before .before .before .before .before .before .before .before
+
+-- what this turn moved lies within the buffer too
+within : (c : tie.Else2 Inv-loop μ-loop) → (head c) .loop .n + c .before .before .turn .given .0 .0 ≤ length ((head c) .before .before .args .buf .now)
+within c = moved-within _ _ ((head c) .loop .n) ((head c) .before .before .args .buf .now) ((head c) .loop .inv) (c .before .before .turn .given .1) (c .before .before .before .before .write-once .ensures)
+
 add-n : tie.Need-add-n Inv-loop μ-loop
-add-n c = omega (arith, moved-within _ _ (c .before .before .before .before .before .before .before .before .loop .n) (c .before .before .before .before .before .before .before .before .before .before .args .buf .now) (c .before .before .before .before .before .before .before .before .loop .inv) (c .before .before .turn .given .1) (c .before .before .before .before .write-once .ensures))
+add-n c = omega (arith, within c)
 
 loop-less-2 : tie.Need-loop-less-2 Inv-loop μ-loop
 loop-less-2 c = search needs
 
 loop-again-2 : tie.Need-loop-again-2 Inv-loop μ-loop
-loop-again-2 c = omega (arith, moved-within _ _ (c .before .before .before .before .before .before .before .before .loop .n) (c .before .before .before .before .before .before .before .before .before .before .args .buf .now) (c .before .before .before .before .before .before .before .before .loop .inv) (c .before .before .turn .given .1) (c .before .before .before .before .write-once .ensures))
+loop-again-2 c = omega (arith, within c)
 
 returns-4 : tie.Need-returns-4 Inv-loop μ-loop
 returns-4 c = search needs
