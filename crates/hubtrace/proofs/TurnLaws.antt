@@ -41,7 +41,8 @@ came-missed-of (pos k) error n t e m = absurd (omega (arith, ltb-true k 0 e))
 came-missed-of (negsuc k) error n t e m = m
 
 -- a negative answer
-pub came-missed : (z error : ℤ) (n : ℕ) (t : Turn) → SFits w64 z → SFits w32 error → ltZ (toZ w64 (ofZ w64 z)) (pos 0) ≡ true → t ≡ missedOf (toZ w32 (ofZ w32 error)) → t ≡ turnOf z error n
+pub came-missed : (z error : ℤ) (n : ℕ) (t : Turn) → SFits w64 z → SFits w32 error
+    → ltZ (toZ w64 (ofZ w64 z)) (pos 0) ≡ true → t ≡ missedOf (toZ w32 (ofZ w32 error)) → t ≡ turnOf z error n
 came-missed z error n t f g e m = came-missed-of z error n t (rw (toZ-ofZ w64 z f) at e) (rw (toZ-ofZ w32 error g) at m)
 
 came-moved-of : (z error : ℤ) (n k : ℕ) → ltZ z (pos 0) ≡ false → k ≡ clamped z n → Moved k ≡ turnOf z error n
@@ -50,7 +51,8 @@ came-moved-of (pos j) error n k e m = ap Moved m
 came-moved-of (negsuc j) error n k e m = cc e
 
 -- any other answer
-pub came-moved : (z error : ℤ) (n k : ℕ) → SFits w64 z → ltZ (toZ w64 (ofZ w64 z)) (pos 0) ≡ false → k ≡ clamped (toZ w64 (ofZ w64 z)) n → Moved k ≡ turnOf z error n
+pub came-moved : (z error : ℤ) (n k : ℕ) → SFits w64 z
+    → ltZ (toZ w64 (ofZ w64 z)) (pos 0) ≡ false → k ≡ clamped (toZ w64 (ofZ w64 z)) n → Moved k ≡ turnOf z error n
 came-moved z error n k f e m = came-moved-of z error n k (rw (toZ-ofZ w64 z f) at e) (rw (toZ-ofZ w64 z f) at m)
 
 chosen-fits : (b : Bool) (n : ℕ) → Fits (cond b Again Failed) n

@@ -1,5 +1,5 @@
--- A buffer of `enough` bytes holds the whole answer to any text: `run_trace` does not end in 28 there, and the bytes that it counts are all of `traceText`. It stands on
--- the bound of `trace` on that text. So they are what is answered to a text that was read to its end. Assumes nothing.
+-- A buffer of `enough` bytes holds the whole answer to any text: `run_trace` does not end in 28 there, and the bytes that it counts are all of
+-- `traceText`. It stands on the bound of `trace` on that text. So they are what is answered to a text that was read to its end. Assumes nothing.
 use Prim.Native.Nat.{ℕ, _+_, _≤_}
 use mathlib.Core.Path.{_≡_, sym, ap, _∙_}
 use mathlib.Core.List.{List}
@@ -34,6 +34,7 @@ pub read-part : (r : Done) (k : ℕ) (s : List ℕ) → r ≡ Bytes k → Within
 read-part r k s e w = let h : k ≤ length s = rw e at w in sym (length-take-le k s h)
 
 pub answered-whole : (d s : List ℕ) (r : Done) (k : ℕ) → enough ≡ length d → r ≡ Bytes k
-    → Counts (traceEnd (length d) (take k s) .length) (traceKept d (take k s)) × (take (traceEnd (length d) (take k s) .length) (traceKept d (take k s)) ≡ answered r s)
+    → Counts (traceEnd (length d) (take k s) .length) (traceKept d (take k s))
+    × (take (traceEnd (length d) (take k s) .length) (traceKept d (take k s)) ≡ answered r s)
 unfolding answered
 answered-whole d s r k h e = rw e (whole d (take k s) h)

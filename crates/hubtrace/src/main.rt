@@ -1,6 +1,6 @@
 // hubtrace: a trace on standard input, its answer on standard output (document 01, "The trace"). All of the work is `trace::run::run_trace`; here are only the
 // two buffers and the way in and out. That the answer is whole is promised by `answer`; what `read` and `write` move is the C library's word.
-// A program has no exit status of its own: it says on standard error what failed, and says nothing there where nothing did. `bin/hubtrace` makes a status of that.
+// A program has no exit status of its own: it says on standard error what failed, and nothing where nothing did. `bin/hubtrace` makes a status of that.
 mod input;
 mod output;
 mod turn;

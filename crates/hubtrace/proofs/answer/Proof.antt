@@ -28,7 +28,8 @@ same-length c = search needs
 returns-2 : tie.Need-returns-2
 returns-2 c =
     rw (c .before .before .run-trace .ensures .0, c .before .before .run-trace .ensures .1)
-    (answered-whole _ _ _ _ (c .before .before .before .before .before .before .before .before .before .before .pre .1) (c .before .before .before .before .before .before .read .given .1))
+    (answered-whole _ _ _ _ (c .before .before .before .before .before .before .before .before .before .before .pre .1)
+    (c .before .before .before .before .before .before .read .given .1))
 
 pub answer-spec : {M : Type 1} → statement M
 answer-spec = tie.close (tie.spec enum-known-read enum-told returns slice-aggregate-run-trace run-trace-requires same-length returns-2)

@@ -1,4 +1,5 @@
--- `read_all` meets its contract. The loop's invariant: the bytes that were read lie within the buffer, which keeps its length. The measure is the turns that are left. Assumes nothing.
+-- `read_all` meets its contract. The loop's invariant: the bytes that were read lie within the buffer, which keeps its length.
+-- The measure is the turns that are left. Assumes nothing.
 use Prim.Native.Nat.{_+_, _≤_}
 use mathlib.Core.Path.{_≡_}
 use native.Mathlib.Omega.{arith}
@@ -74,7 +75,9 @@ head c = c .before .before .before .before .before .before .before .before .befo
 
 -- what this turn moved lies within the buffer too
 within : (c : tie.Else2 Inv-loop μ-loop) → (head c) .loop .n + c .before .before .turn .given .0 .0 ≤ length ((head c) .loop .buf)
-within c = moved-within _ _ ((head c) .loop .n) ((head c) .loop .buf) ((head c) .loop .inv .0) (c .before .before .turn .given .1) (c .before .before .before .before .before .before .read-once .ensures)
+within c =
+    moved-within _ _ ((head c) .loop .n) ((head c) .loop .buf) ((head c) .loop .inv .0)
+    (c .before .before .turn .given .1) (c .before .before .before .before .before .before .read-once .ensures)
 
 add-n : tie.Need-add-n Inv-loop μ-loop
 add-n c = omega (arith, within c)

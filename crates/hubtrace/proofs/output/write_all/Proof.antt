@@ -65,7 +65,9 @@ head c = c .before .before .before .before .before .before .before .before
 
 -- what this turn moved lies within the buffer too
 within : (c : tie.Else2 Inv-loop μ-loop) → (head c) .loop .n + c .before .before .turn .given .0 .0 ≤ length ((head c) .before .before .args .buf .now)
-within c = moved-within _ _ ((head c) .loop .n) ((head c) .before .before .args .buf .now) ((head c) .loop .inv) (c .before .before .turn .given .1) (c .before .before .before .before .write-once .ensures)
+within c =
+    moved-within _ _ ((head c) .loop .n) ((head c) .before .before .args .buf .now) ((head c) .loop .inv)
+    (c .before .before .turn .given .1) (c .before .before .before .before .write-once .ensures)
 
 add-n : tie.Need-add-n Inv-loop μ-loop
 add-n c = omega (arith, within c)
