@@ -3,6 +3,7 @@
 
 use crate::answers::{Answer, Original, no_call_hands_out};
 use crate::met::{KINDS, Met, PLACES};
+use std::panic::{AssertUnwindSafe, catch_unwind};
 use vs_mqtt_monitor::{opened, state};
 
 /// Every public call of the monitor. `inspect_claimed` is `inspect` with claimed lengths, `counters` are three calls.
@@ -61,7 +62,8 @@ const REASONS: [&str; 7] = [
     "10: a window's count over 16",
 ];
 
-const MORE: [&str; 19] = [
+const MORE: [&str; 20] = [
+    "calls",
     "four alerts at once",
     "hash in an alert",
     "32 rules",
@@ -110,7 +112,8 @@ impl Play<'_> {
         let holders = opened::holders(&self.original.monitor);
         let (rules, reason) = (self.original.monitor.rule_count(), no_call_hands_out(&self.original.monitor));
         let (next_id, stale) = (state::settings(&self.original.monitor).3, self.original.stale);
-        let answer = self.original.answer(&line);
+        let answer = catch_unwind(AssertUnwindSafe(|| self.original.answer(&line)));
+        let answer = answer.unwrap_or_else(|_| Answer::Text(" (the original panics)".into()));
         self.said += &format!("{line} ->{answer}\nall ->{}\n", self.original.answer("all"));
         let words: Vec<&str> = line.split(' ').collect();
         if let Some(call) = CALLS.iter().find(|call| **call == words[0]) {
