@@ -11,9 +11,10 @@ line-at-requires c κs = search needs
 
 returns : tie.Need-returns
 unfolding hexField hexKept
-returns c =
-    let line = c .before .before .line-at .ensures in
-    (rw (← line .0) (stays _ _ _ (line .0) (c .if1 .taken) _), (line .1, rw (← line .0, ne-eqb _ _ (c .if1 .taken))))
+returns c = (
+  rw (← c .before .before .line-at .ensures .0) (stays _ _ _ (c .before .before .line-at .ensures .0) (c .if1 .taken) _),
+  (c .before .before .line-at .ensures .1, rw (← c .before .before .line-at .ensures .0, ne-eqb _ _ (c .if1 .taken))),
+)
 
 sub-hex : tie.Need-sub-hex
 sub-hex c = search needs
