@@ -47,7 +47,9 @@ module _ (s : List ℕ) (at : ℕ) (key : List ℕ) {p : Span} (e : p ≡ spanOf
       (omega (arith, line-inside), omega arith)
 
   -- the key is there: the value goes from its end to the LF
-  pub line-keyed : p .whole ≡ true → begins key (part s (p .from) (p .to)) ≡ true → (record { number = 0; value = 0; from = p .from + length key; to = p .to; next = p .to + 1 } ≡ lineAt s at key) × Within s (record { number = 0; value = 0; from = p .from + length key; to = p .to; next = p .to + 1 })
+  pub line-keyed : p .whole ≡ true → begins key (part s (p .from) (p .to)) ≡ true
+      → (record { number = 0; value = 0; from = p .from + length key; to = p .to; next = p .to + 1 } ≡ lineAt s at key)
+      × Within s (record { number = 0; value = 0; from = p .from + length key; to = p .to; next = p .to + 1 })
   unfolding lineAt keyed
   line-keyed w b =
       let h = line-room w b in
@@ -67,7 +69,8 @@ module _ (s : List ℕ) (at : ℕ) (key : List ℕ) {line : Field} (e : line ≡
   stays h answer = rw (ne-eqb _ _ h)
 
   -- a line that was read is answered by the number that its value gives
-  pub answers : line .number ≡ 0 → Within s line → {f : Field} {m n : Number} (number : ℕ) → m ≡ n → f ≡ answered line at number m → (f ≡ onLine line (answered line (placeIn s at) number n)) × Within s f
+  pub answers : line .number ≡ 0 → Within s line → {f : Field} {m n : Number} (number : ℕ) → m ≡ n → f ≡ answered line at number m
+      → (f ≡ onLine line (answered line (placeIn s at) number n)) × Within s f
   unfolding answered
   answers z w {f} {m} {n} number q g = by-number n (rw q at g)
     where
@@ -79,13 +82,15 @@ module _ (s : List ℕ) (at : ℕ) (key : List ℕ) {line : Field} (e : line ≡
           (rw (eq-eqb _ _ z, h .0) g, within-refused number at g (h .1))
 
   -- a line that was read, and whose hex is refused
-  pub counts-not : line .number ≡ 0 → {f : Field} {number n : ℕ} (count : ℕ) → number ≡ n → (number ≡ 0 → ⊥) → f ≡ refused number at → (f ≡ onLine line (counted line (placeIn s at) n count)) × Within s f
+  pub counts-not : line .number ≡ 0 → {f : Field} {number n : ℕ} (count : ℕ) → number ≡ n → (number ≡ 0 → ⊥) → f ≡ refused number at
+      → (f ≡ onLine line (counted line (placeIn s at) n count)) × Within s f
   counts-not z {f} {number} count q h g =
       let l = line-start z in
       (rw (← q, eq-eqb _ _ z, ne-eqb _ _ h, l .0) g, within-refused number at g (l .1))
 
   -- a line that was read, and whose hex is read
-  pub counts : line .number ≡ 0 → Within s line → {f : Field} {number n : ℕ} → number ≡ n → number ≡ 0 → f ≡ read line ((line .to - line .from) / 2) → (f ≡ onLine line (counted line (placeIn s at) n (hexCount (valueOf s line)))) × Within s f
+  pub counts : line .number ≡ 0 → Within s line → {f : Field} {number n : ℕ} → number ≡ n → number ≡ 0 → f ≡ read line ((line .to - line .from) / 2)
+      → (f ≡ onLine line (counted line (placeIn s at) n (hexCount (valueOf s line)))) × Within s f
   counts z w q h g =
       let c : length (valueOf s line) ≡ line .to - line .from = simp (length-take, length-drop) (omega arith) in
       (rw (← q, eq-eqb _ _ z, eq-eqb _ _ h, c) g, rw g (record { ordered = w .ordered; inside = w .inside; after = w .after }))

@@ -66,8 +66,10 @@ window-fine : (T : List ClientStormEntry) (h : ClientHashes) (t threshold window
     → windowFine (connect T h t threshold window .entry) ≡ true
 unfolding connect recorded
 window-fine T h t threshold window e =
-    by (ltb (find (holdsClient h) T) (length T))
-    (λ l. rw l (count-fine (getD T (find (holdsClient h) T) noWindow .active) (getD T (find (holdsClient h) T) noWindow .count) (every-at windowFine T noWindow (find (holdsClient h) T) e (ltb-true _ _ l))))
+    let i = find (holdsClient h) T in
+    let w = getD T i noWindow in
+    by (ltb i (length T))
+    (λ l. rw l (count-fine (w .active) (w .count) (every-at windowFine T noWindow i e (ltb-true _ _ l))))
     (λ l. rw l)
 
 -- what each table is asked to store

@@ -206,7 +206,9 @@ module _ {m : MqttMonitor} (s : Sound m) where
       called _ _ _
       (by (ltb at 32)
       (λ e. rw e (λ o.
-      with-tables (m .«next_alert_id») (m .«total_inspected») (m .«total_alerts») (bucket-removed (s .buckets-sound) at (ltb-true _ _ e)) (every-set bucketFine (m .«rate_buckets») at emptyBucket (f .buckets-fine) refl) (s .windows-sound) (f .windows-fine) (s .trackers-sound) (f .trackers-fine) (s .next-id)))
+      with-tables (m .«next_alert_id») (m .«total_inspected») (m .«total_alerts»)
+      (bucket-removed (s .buckets-sound) at (ltb-true _ _ e)) (every-set bucketFine (m .«rate_buckets») at emptyBucket (f .buckets-fine) refl)
+      (s .windows-sound) (f .windows-fine) (s .trackers-sound) (f .trackers-fine) (s .next-id)))
       (λ e. rw e (λ o. absurd (omega arith))))
 
   -- `remove_ewma_tracker`
@@ -218,7 +220,10 @@ module _ {m : MqttMonitor} (s : Sound m) where
       called _ _ _
       (by (ltb at 16)
       (λ e. rw e (λ o.
-      with-tables (m .«next_alert_id») (m .«total_inspected») (m .«total_alerts») (s .buckets-sound) (f .buckets-fine) (s .windows-sound) (f .windows-fine) (tracker-removed (s .trackers-sound) at (ltb-true _ _ e)) (every-set trackerFine (m .«ewma_trackers») at emptyTracker (f .trackers-fine) refl) (s .next-id)))
+      with-tables (m .«next_alert_id») (m .«total_inspected») (m .«total_alerts»)
+      (s .buckets-sound) (f .buckets-fine) (s .windows-sound) (f .windows-fine)
+      (tracker-removed (s .trackers-sound) at (ltb-true _ _ e)) (every-set trackerFine (m .«ewma_trackers») at emptyTracker (f .trackers-fine) refl)
+      (s .next-id)))
       (λ e. rw e (λ o. absurd (omega arith))))
 
   -- `reset_state`

@@ -29,8 +29,8 @@ sound-id t h =
     }
 
 -- an identity by its fields
-abbrev fields : ℕ → ℕ → List ℕ → ℕ → ℕ → ℕ → Id
-fields h h2 p k n s = record { hash = h; hash2 = h2; prefix = p; «prefix_len» = k; len = n; «suffix_hash» = s }
+abbrev fields : Id → Id
+fields i = record { hash = i .hash; hash2 = i .hash2; prefix = i .prefix; «prefix_len» = i .«prefix_len»; len = i .len; «suffix_hash» = i .«suffix_hash» }
 
 -- equal fields
 pub same-id : (a b : Id) → sameId a b ≡ true → a ≡ b
@@ -52,7 +52,7 @@ same-id a b e =
     let e4 : a .«suffix_hash» ≡ b .«suffix_hash» = eqb-true _ _ (i .1) in
     let e5 : a .«prefix_len» ≡ b .«prefix_len» = eqb-true _ _ (g .1) in
     let e6 : a .prefix ≡ b .prefix = same-true _ _ (f .1) in
-    let all : fields (a .hash) (a .hash2) (a .prefix) (a .«prefix_len») (a .len) (a .«suffix_hash») ≡ fields (b .hash) (b .hash2) (b .prefix) (b .«prefix_len») (b .len) (b .«suffix_hash») = rw (e1, e2, e3, e4, e5, e6) in
+    let all : fields a ≡ fields b = rw (e1, e2, e3, e4, e5, e6) in
     all
 
 -- an identity that does not answer to another has not its fields, in either order

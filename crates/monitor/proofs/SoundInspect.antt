@@ -41,7 +41,8 @@ all-ids hash t id total kinds n = fold-keeps (raise hash t) (λ a. a .«next_id�
 
 module _ {m : MqttMonitor} (s : Sound m) (msg : MqttMessage) (topic : List ℕ) (short : length topic < 65536) where
   -- the tables with what they are asked to store
-  seen-sound : SoundWindows (storedAt 16 (m .«client_hashes») (seenOf (m .«client_hashes») (m .«connect_storm_threshold») (m .«connect_storm_window_us») msg topic .at) (seenOf (m .«client_hashes») (m .«connect_storm_threshold») (m .«connect_storm_window_us») msg topic .entry))
+  seen-sound : let d = seenOf (m .«client_hashes») (m .«connect_storm_threshold») (m .«connect_storm_window_us») msg topic in
+      SoundWindows (storedAt 16 (m .«client_hashes») (d .at) (d .entry))
   unfolding seenOf
   seen-sound =
       by (eqb (typeNumber (msg .«packet_type»)) 1)

@@ -3,7 +3,8 @@
 use Prim.Native.Nat.{ℕ, min}
 use Rattle.monitor.specs.declared.message.MqttMessage.{MqttMessage}
 use Rattle.monitor.specs.declared.message.MqttPacketType.{MqttPacketType}
-use Rattle.monitor.specs.declared.message.MqttPacketType.the-variants.{Connect, ConnAck, Publish, PubAck, PubRec, PubRel, PubComp, Subscribe, SubAck, Unsubscribe, UnsubAck, PingReq, PingResp, Disconnect, Auth}
+use Rattle.monitor.specs.declared.message.MqttPacketType.the-variants.{Connect, ConnAck, Publish, PubAck, PubRec, PubRel, PubComp}
+use Rattle.monitor.specs.declared.message.MqttPacketType.the-variants.{Subscribe, SubAck, Unsubscribe, UnsubAck, PingReq, PingResp, Disconnect, Auth}
 
 -- a packet type's number in MQTT
 abbrev pub typeNumber : MqttPacketType → ℕ

@@ -57,7 +57,8 @@ abbrev pub passing : (List ℕ → Bool) → TopicRule → Bool
 passing q r = r .active && q (patternOf r)
 
 -- a search of the table's first places by a loop that counts up and leaves at the first rule that passes
-module _ (q : List ℕ → Bool) (rules : List TopicRule) (count : ℕ) (i : ℕ) {n : ℕ} (full : length rules ≡ 32) (used : n ≡ min count 32) (found : find (passing q) (take count rules) ≡ i + find (passing q) (drop i (take count rules))) where
+module _ (q : List ℕ → Bool) (rules : List TopicRule) (count : ℕ) (i : ℕ) {n : ℕ} (full : length rules ≡ 32) (used : n ≡ min count 32)
+    (found : find (passing q) (take count rules) ≡ i + find (passing q) (drop i (take count rules))) where
   many : length (take count rules) ≡ n
   many = omega (arith, length-take count rules)
 

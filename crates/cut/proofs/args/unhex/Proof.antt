@@ -17,7 +17,9 @@ same-length c = search needs
 returns : tie.Need-returns
 unfolding bytesOf
 returns c =
-    (rw (← c .before .before .before .before .before .arg .ensures, ← c .before .before .before .hex .ensures .0, ne-eqb _ _ (c .if1 .taken)), rw (← c .before .before .before .before .before .arg .ensures) (c .before .before .before .hex .ensures .1))
+    let at-hex = c .before .before .before in
+    let at-arg = at-hex .before .before in
+    (rw (← at-arg .arg .ensures, ← at-hex .hex .ensures .0, ne-eqb _ _ (c .if1 .taken)), rw (← at-arg .arg .ensures) (at-hex .hex .ensures .1))
 
 field-requires : tie.Need-field-requires
 field-requires c κs = search needs
@@ -28,7 +30,9 @@ same-length-2 c = search needs
 returns-2 : tie.Need-returns-2
 unfolding bytesOf
 returns-2 c =
-    (rw (c .field .ensures, ← c .before .before .before .before .before .before .arg .ensures, ← c .before .before .before .before .hex .ensures .0, eq-eqb _ _ (c .before .if1 .left)), rw (← c .before .before .before .before .before .before .arg .ensures) (c .before .before .before .before .hex .ensures .1))
+    let at-hex = c .before .before .before .before in
+    let at-arg = at-hex .before .before in
+    (rw (c .field .ensures, ← at-arg .arg .ensures, ← at-hex .hex .ensures .0, eq-eqb _ _ (c .before .if1 .left)), rw (← at-arg .arg .ensures) (at-hex .hex .ensures .1))
 
 pub unhex-spec : {M : Type 1} → statement M
 unhex-spec =

@@ -16,7 +16,10 @@ line-len-requires : tie.Need-line-len-requires
 line-len-requires c κs = search needs
 
 returns : tie.Need-returns
-returns c = omega (arith, word-line-length (c .before .before .before .before .before .args .key .now) (c .before .before .before .before .before .args .words .now) (c .before .before .before .before .before .args .k), part-length (c .before .before .word-part .ensures))
+returns c =
+    let at-part = c .before .before in
+    let args = at-part .before .before .before .args in
+    omega (arith, word-line-length (args .key .now) (args .words .now) (args .k), part-length (at-part .word-part .ensures))
 
 pub word-line-len-spec : {M : Type 1} → statement M
 word-line-len-spec = tie.close (tie.spec word-part-requires sub-line-len line-len-requires returns)

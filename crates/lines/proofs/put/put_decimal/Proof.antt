@@ -62,7 +62,11 @@ same-length : tie.Need-same-length Inv-loop μ-loop
 same-length c = search needs
 
 returns : tie.Need-returns Inv-loop μ-loop
-returns c = rw (digits-done (c .before .before .before .before .before .before .before .loop .inv) (c .before .before .before .before .before .before .loop-test .left)) at (c .before .before .put-bytes .ensures)
+returns c =
+    let at-put-bytes = c .before .before in
+    let at-loop-test = at-put-bytes .before .before .before .before in
+    let at-loop = at-loop-test .before in
+    rw (digits-done (at-loop .loop .inv) (at-loop-test .loop-test .left)) at (at-put-bytes .put-bytes .ensures)
 
 pub put-decimal-spec : {M : Type 1} → statement M
 put-decimal-spec =

@@ -34,7 +34,11 @@ loop-less : tie.Need-loop-less Inv-loop μ-loop
 loop-less c = omega arith
 
 loop-again : tie.Need-loop-again Inv-loop μ-loop
-loop-again c = (omega arith, rw (hex-more _ _ (c .before .before .before .before .before .loop-test .taken)) (wrote-then (c .before .before .before .before .before .before .loop .inv .1) (c .before .before .put-pair .ensures)))
+loop-again c =
+    let at-put-pair = c .before .before in
+    let at-loop-test = at-put-pair .before .before .before in
+    let at-loop = at-loop-test .before in
+    (omega arith, rw (hex-more _ _ (at-loop-test .loop-test .taken)) (wrote-then (at-loop .loop .inv .1) (at-put-pair .put-pair .ensures)))
 
 same-length : tie.Need-same-length Inv-loop μ-loop
 same-length c = wrote-length (c .before .loop .inv .1)

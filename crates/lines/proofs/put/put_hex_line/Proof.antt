@@ -19,7 +19,11 @@ same-length c = search needs
 
 returns : tie.Need-returns
 unfolding hexLine
-returns c = wrote-then (wrote-then (c .before .before .before .before .before .before .before .before .before .before .put-bytes .ensures) (c .before .before .before .before .before .before .put-hex .ensures)) (c .before .before .put-end .ensures)
+returns c =
+    let at-end = c .before .before in
+    let at-value = at-end .before .before .before .before in
+    let at-key = at-value .before .before .before .before in
+    wrote-then (wrote-then (at-key .put-bytes .ensures) (at-value .put-hex .ensures)) (at-end .put-end .ensures)
 
 pub put-hex-line-spec : {M : Type 1} → statement M
 put-hex-line-spec =

@@ -19,7 +19,11 @@ same-length c = search needs
 
 returns : tie.Need-returns
 unfolding numberLine
-returns c = wrote-then (wrote-then (c .before .before .before .before .before .before .before .before .before .before .put-bytes .ensures) (c .before .before .before .before .before .before .put-decimal .ensures)) (c .before .before .put-end .ensures)
+returns c =
+    let at-end = c .before .before in
+    let at-value = at-end .before .before .before .before in
+    let at-key = at-value .before .before .before .before in
+    wrote-then (wrote-then (at-key .put-bytes .ensures) (at-value .put-decimal .ensures)) (at-end .put-end .ensures)
 
 pub put-number-line-spec : {M : Type 1} → statement M
 put-number-line-spec =

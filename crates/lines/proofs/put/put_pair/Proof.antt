@@ -22,7 +22,13 @@ same-length c = search needs
 
 returns : tie.Need-returns
 unfolding hexText
-returns c = rw (← c .before .before .before .before .before .before .before .before .hex-digit .ensures, ← c .before .before .before .hex-digit2 .ensures) (wrote-then (c .before .before .before .before .before .before .before .put-byte .ensures) (c .before .before .put-byte2 .ensures))
+returns c =
+    let at-low = c .before .before in
+    let at-low-digit = at-low .before in
+    let at-high = at-low-digit .before .before .before .before in
+    let at-high-digit = at-high .before in
+    rw (← at-high-digit .hex-digit .ensures, ← at-low-digit .hex-digit2 .ensures)
+    (wrote-then (at-high .put-byte .ensures) (at-low .put-byte2 .ensures))
 
 pub put-pair-spec : {M : Type 1} → statement M
 put-pair-spec =

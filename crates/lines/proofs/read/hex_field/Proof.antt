@@ -11,7 +11,10 @@ line-at-requires c κs = search needs
 
 returns : tie.Need-returns
 unfolding hexField hexKept
-returns c = (rw (← c .before .before .line-at .ensures .0) (stays _ _ _ (c .before .before .line-at .ensures .0) (c .if1 .taken) _), (c .before .before .line-at .ensures .1, rw (← c .before .before .line-at .ensures .0, ne-eqb _ _ (c .if1 .taken))))
+returns c = (
+  rw (← c .before .before .line-at .ensures .0) (stays _ _ _ (c .before .before .line-at .ensures .0) (c .if1 .taken) _),
+  (c .before .before .line-at .ensures .1, rw (← c .before .before .line-at .ensures .0, ne-eqb _ _ (c .if1 .taken))),
+)
 
 sub-hex : tie.Need-sub-hex
 sub-hex c = search needs
@@ -33,7 +36,12 @@ same-length c = search needs
 
 returns-2 : tie.Need-returns-2
 unfolding hexField hexKept
-returns-2 c = let h = counts-not _ _ _ (c .before .before .before .before .before .before .before .before .before .line-at .ensures .0) (c .before .before .before .before .before .before .before .if1 .left) _ (c .before .before .before .before .hex .ensures .0) (c .before .if2 .taken) (c .refused .ensures) in (rw (← c .before .before .before .before .before .before .before .before .before .line-at .ensures .0) (h .0), (h .1, rw (← c .before .before .before .before .before .before .before .before .before .line-at .ensures .0, eq-eqb _ _ (c .before .before .before .before .before .before .before .if1 .left)) (c .before .before .before .before .hex .ensures .1)))
+returns-2 c =
+    let at-hex = c .before .before .before .before in
+    let at-if1 = at-hex .before .before .before in
+    let line = at-if1 .before .before .line-at .ensures in
+    let h = counts-not _ _ _ (line .0) (at-if1 .if1 .left) _ (at-hex .hex .ensures .0) (c .before .if2 .taken) (c .refused .ensures) in
+    (rw (← line .0) (h .0), (h .1, rw (← line .0, eq-eqb _ _ (at-if1 .if1 .left)) (at-hex .hex .ensures .1)))
 
 sub-read-as : tie.Need-sub-read-as
 sub-read-as c = search needs
@@ -46,7 +54,12 @@ same-length-2 c = search needs
 
 returns-3 : tie.Need-returns-3
 unfolding hexField hexKept
-returns-3 c = let h = counts _ _ _ (c .before .before .before .before .before .before .before .before .before .line-at .ensures .0) (c .before .before .before .before .before .before .before .if1 .left) (c .before .before .before .before .before .before .before .before .before .line-at .ensures .1) (c .before .before .before .before .hex .ensures .0) (c .before .if2 .left) (c .read-as .ensures) in (rw (← c .before .before .before .before .before .before .before .before .before .line-at .ensures .0) (h .0), (h .1, rw (← c .before .before .before .before .before .before .before .before .before .line-at .ensures .0, eq-eqb _ _ (c .before .before .before .before .before .before .before .if1 .left)) (c .before .before .before .before .hex .ensures .1)))
+returns-3 c =
+    let at-hex = c .before .before .before .before in
+    let at-if1 = at-hex .before .before .before in
+    let line = at-if1 .before .before .line-at .ensures in
+    let h = counts _ _ _ (line .0) (at-if1 .if1 .left) (line .1) (at-hex .hex .ensures .0) (c .before .if2 .left) (c .read-as .ensures) in
+    (rw (← line .0) (h .0), (h .1, rw (← line .0, eq-eqb _ _ (at-if1 .if1 .left)) (at-hex .hex .ensures .1)))
 
 pub hex-field-spec : {M : Type 1} → statement M
 hex-field-spec =

@@ -31,16 +31,31 @@ refused-requires-2 : tie.Need-refused-requires-2
 refused-requires-2 c κs = search needs
 
 returns-2 : tie.Need-returns-2
-returns-2 c = line-other _ _ _ (c .before .before .before .before .before .before .span-from .ensures) (c .refused2 .ensures) (not-false _ (c .before .before .before .before .if1 .left)) (sym (c .before .before .starts-with .ensures) ∙ not-true _ (c .before .if2 .taken))
+returns-2 c =
+    let at-starts-with = c .before .before in
+    let at-if1 = at-starts-with .before .before in
+    let other = sym (at-starts-with .starts-with .ensures) ∙ not-true _ (c .before .if2 .taken) in
+    line-other _ _ _ (at-if1 .before .before .span-from .ensures) (c .refused2 .ensures) (not-false _ (at-if1 .if1 .left)) other
 
 add-t13 : tie.Need-add-t13
-add-t13 c = let h = line-room _ _ _ (c .before .before .before .before .before .span-from .ensures) (not-false _ (c .before .before .before .if1 .left)) (sym (c .before .starts-with .ensures) ∙ not-false _ (c .if2 .left)) in search needs
+add-t13 c =
+    let at-if1 = c .before .before .before in
+    let keyed = sym (c .before .starts-with .ensures) ∙ not-false _ (c .if2 .left) in
+    let h = line-room _ _ _ (at-if1 .before .before .span-from .ensures) (not-false _ (at-if1 .if1 .left)) keyed in
+    search needs
 
 add-t14 : tie.Need-add-t14
-add-t14 c = let h = line-room _ _ _ (c .before .before .before .before .before .span-from .ensures) (not-false _ (c .before .before .before .if1 .left)) (sym (c .before .starts-with .ensures) ∙ not-false _ (c .if2 .left)) in search needs
+add-t14 c =
+    let at-if1 = c .before .before .before in
+    let keyed = sym (c .before .starts-with .ensures) ∙ not-false _ (c .if2 .left) in
+    let h = line-room _ _ _ (at-if1 .before .before .span-from .ensures) (not-false _ (at-if1 .if1 .left)) keyed in
+    search needs
 
 returns-3 : tie.Need-returns-3
-returns-3 c = line-keyed _ _ _ (c .before .before .before .before .before .span-from .ensures) (not-false _ (c .before .before .before .if1 .left)) (sym (c .before .starts-with .ensures) ∙ not-false _ (c .if2 .left))
+returns-3 c =
+    let at-if1 = c .before .before .before in
+    let keyed = sym (c .before .starts-with .ensures) ∙ not-false _ (c .if2 .left) in
+    line-keyed _ _ _ (at-if1 .before .before .span-from .ensures) (not-false _ (at-if1 .if1 .left)) keyed
 
 pub line-at-spec : {M : Type 1} → statement M
 line-at-spec =

@@ -29,7 +29,11 @@ answered-requires c κs = search needs
 
 returns-2 : tie.Need-returns-2
 unfolding wordField
-returns-2 c = let h = answers _ _ _ (c .before .before .before .before .before .line-at .ensures .0) (c .before .before .before .if1 .left) (c .before .before .before .before .before .line-at .ensures .1) 23 (c .before .word .ensures) (c .answered .ensures) in (rw (← c .before .before .before .before .before .line-at .ensures .0) (h .0), h .1)
+returns-2 c =
+    let at-if1 = c .before .before .before in
+    let line = at-if1 .before .before .line-at .ensures in
+    let h = answers _ _ _ (line .0) (at-if1 .if1 .left) (line .1) 23 (c .before .word .ensures) (c .answered .ensures) in
+    (rw (← line .0) (h .0), h .1)
 
 pub word-field-spec : {M : Type 1} → statement M
 word-field-spec =

@@ -53,13 +53,20 @@ loop-less : tie.Need-loop-less Inv-loop μ-loop
 loop-less c = search needs
 
 loop-again : tie.Need-loop-again Inv-loop μ-loop
-loop-again c = let f = sym (c .before .digit-fits .ensures) ∙ not-false _ (c .if2 .left) in (omega arith, digit-room _ _ _ f .2, reading-next _ (c .before .before .before .before .loop .inv .2) (c .before .before .before .loop-test .taken) f)
+loop-again c =
+    let at-loop-test = c .before .before .before in
+    let f = sym (c .before .digit-fits .ensures) ∙ not-false _ (c .if2 .left) in
+    (omega arith, digit-room _ _ _ f .2, reading-next _ (at-loop-test .before .loop .inv .2) (at-loop-test .loop-test .taken) f)
 
 returns-3 : tie.Need-returns-3 Inv-loop μ-loop
 returns-3 c = decimal-low _ _ _ (c .before .before .loop .inv .2) (c .before .loop-test .left) (c .if3 .taken)
 
 returns-4 : tie.Need-returns-4 Inv-loop μ-loop
-returns-4 c = decimal-value _ _ _ (c .before .before .loop .inv .2) (sym (c .before .before .before .before .no-spare-zero .ensures) ∙ not-false _ (c .before .before .before .if1 .left)) (c .before .loop-test .left) (c .if3 .left) (c .before .before .loop .inv .1)
+returns-4 c =
+    let at-loop = c .before .before in
+    let at-if1 = at-loop .before in
+    let unspared = sym (at-if1 .before .no-spare-zero .ensures) ∙ not-false _ (at-if1 .if1 .left) in
+    decimal-value _ _ _ (at-loop .loop .inv .2) unspared (c .before .loop-test .left) (c .if3 .left) (at-loop .loop .inv .1)
 
 pub decimal-spec : {M : Type 1} → statement M
 decimal-spec =

@@ -21,7 +21,10 @@ cast-d c = search needs
 
 returns-3 : tie.Need-returns-3
 unfolding isDigit digitFits
-returns-3 c = simp (le-leb _ _ (c .before .before .if1 .left), le-leb _ _ (c .before .if2 .left), lt-leb (c .before .before .before .args .v * 10 + (c .before .before .before .args .c - 48)) (c .before .before .before .args .high) (omega arith))
+returns-3 c =
+    let at-if1 = c .before .before in
+    let args = at-if1 .before .args in
+    simp (le-leb _ _ (at-if1 .if1 .left), le-leb _ _ (c .before .if2 .left), lt-leb (args .v * 10 + (args .c - 48)) (args .high) (omega arith))
 
 returns-4 : tie.Need-returns-4
 returns-4 c = digit-limit _ _ _ (c .before .before .if1 .left) (c .before .if2 .left) (c .if3 .left)

@@ -21,7 +21,11 @@ same-length c = search needs
 
 returns-2 : tie.Need-returns-2
 unfolding hexInto
-returns-2 c = (sym (c .before .before .before .before .if1 .left) ∙ c .before .before .before .before .before .hex-refusal .ensures, rw (← c .before .before .before .before .before .hex-refusal .ensures, eq-eqb _ _ (c .before .before .before .before .if1 .left)) (c .before .before .put-unhex .ensures))
+returns-2 c =
+    let at-put-unhex = c .before .before in
+    let at-if1 = at-put-unhex .before .before in
+    let taken = at-if1 .before .hex-refusal .ensures in
+    (sym (at-if1 .if1 .left) ∙ taken, rw (← taken, eq-eqb _ _ (at-if1 .if1 .left)) (at-put-unhex .put-unhex .ensures))
 
 pub hex-spec : {M : Type 1} → statement M
 hex-spec =

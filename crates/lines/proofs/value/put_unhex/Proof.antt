@@ -1,5 +1,5 @@
--- `lines::value::put_unhex` meets its contract. The invariant: the first `i` bytes stand in the buffer, and storing those that are left gives what storing all of them gives; the measure: the bytes that are left.
--- Assumes nothing.
+-- `lines::value::put_unhex` meets its contract. The invariant: the first `i` bytes stand in the buffer, and storing those that are left gives what storing all of them gives;
+-- the measure: the bytes that are left. Assumes nothing.
 use Prim.Native.Nat.{_-_, _≤_}
 use native.Mathlib.Omega.{arith}
 use borrow.Author.Needs.{needs}
@@ -46,7 +46,10 @@ add-out : tie.Need-add-out Inv-loop μ-loop
 add-out c = search needs
 
 slice-write-out : tie.Need-slice-write-out Inv-loop μ-loop
-slice-write-out c = let h = hex-taken _ _ (c .before .before .before .before .before .before .before .before .pre) in omega (arith, c .before .before .before .before .before .loop .inv .1 .same)
+slice-write-out c =
+    let at-loop = c .before .before .before .before .before in
+    let h = hex-taken _ _ (at-loop .before .before .before .pre) in
+    omega (arith, at-loop .loop .inv .1 .same)
 
 add-i : tie.Need-add-i Inv-loop μ-loop
 add-i c = search needs

@@ -21,35 +21,55 @@ loop-holds c = (omega arith, omega arith, passed-none _ _)
 find-byte-requires : tie.Need-find-byte-requires Inv-loop μ-loop
 find-byte-requires c κs = search needs
 
+-- the word's end, seen from where it was found, lies between its start and the list's end
+inside : (c : tie.After-find-byte Inv-loop μ-loop)
+    → (c .before .loop .from ≤ c .find-byte .result) × (c .find-byte .result ≤ length (c .before .before .before .before .args .words .now))
+inside c = word-inside _ (c .before .loop .inv .0) (c .find-byte .ensures)
+
 sub-is-word : tie.Need-sub-is-word Inv-loop μ-loop
-sub-is-word c = word-inside _ (c .before .loop .inv .0) (c .find-byte .ensures) .0
+sub-is-word c = inside c .0
 
 part-is-word-start : tie.Need-part-is-word-start Inv-loop μ-loop
-part-is-word-start c = let h = word-inside _ (c .before .loop .inv .0) (c .find-byte .ensures) in search needs
+part-is-word-start c = let h = inside c in search needs
 
 part-is-word-end : tie.Need-part-is-word-end Inv-loop μ-loop
-part-is-word-end c = let h = word-inside _ (c .before .loop .inv .0) (c .find-byte .ensures) in search needs
+part-is-word-end c = let h = inside c in search needs
 
 is-word-requires : tie.Need-is-word-requires Inv-loop μ-loop
 is-word-requires c κs = search needs
 
 returns : tie.Need-returns Inv-loop μ-loop
-returns c = word-found (c .before .before .before .before .loop .inv .2) (c .before .before .before .before .loop .inv .0) (c .before .before .before .find-byte .ensures) (sym (c .before .is-word .ensures) ∙ c .if1 .taken)
+returns c =
+    let at-find = c .before .before .before in
+    let inv = at-find .before .loop .inv in
+    word-found (inv .2) (inv .0) (at-find .find-byte .ensures) (sym (c .before .is-word .ensures) ∙ c .if1 .taken)
 
 returns-2 : tie.Need-returns-2 Inv-loop μ-loop
-returns-2 c = word-missing (c .before .before .before .before .before .loop .inv .2) (c .before .before .before .before .before .loop .inv .0) (c .before .before .before .before .find-byte .ensures) (sym (c .before .before .is-word .ensures) ∙ c .before .if1 .left) (c .if2 .taken)
+returns-2 c =
+    let at-is-word = c .before .before in
+    let at-find = at-is-word .before .before in
+    let inv = at-find .before .loop .inv in
+    word-missing (inv .2) (inv .0) (at-find .find-byte .ensures) (sym (at-is-word .is-word .ensures) ∙ c .before .if1 .left) (c .if2 .taken)
 
 add-from : tie.Need-add-from Inv-loop μ-loop
-add-from c = let h = word-inside _ (c .before .before .before .before .before .loop .inv .0) (c .before .before .before .before .find-byte .ensures) in search needs
+add-from c = let h = inside (c .before .before .before .before) in search needs
 
 add-k : tie.Need-add-k Inv-loop μ-loop
-add-k c = let h = word-inside _ (c .before .before .before .before .before .loop .inv .0) (c .before .before .before .before .find-byte .ensures) in search needs
+add-k c = let h = inside (c .before .before .before .before) in search needs
 
 loop-less : tie.Need-loop-less Inv-loop μ-loop
-loop-less c = let h = word-inside _ (c .before .before .before .before .before .loop .inv .0) (c .before .before .before .before .find-byte .ensures) in omega arith
+loop-less c = let h = inside (c .before .before .before .before) in omega arith
 
 loop-again : tie.Need-loop-again Inv-loop μ-loop
-loop-again c = let h = word-inside _ (c .before .before .before .before .before .loop .inv .0) (c .before .before .before .before .find-byte .ensures) in (omega arith, omega arith, word-next (c .before .before .before .before .before .loop .inv .2) (c .before .before .before .before .before .loop .inv .0) (c .before .before .before .before .find-byte .ensures) (sym (c .before .before .is-word .ensures) ∙ c .before .if1 .left) (c .if2 .left))
+loop-again c =
+    let at-is-word = c .before .before in
+    let at-find = at-is-word .before .before in
+    let inv = at-find .before .loop .inv in
+    let h = inside at-find in (
+      omega arith,
+      omega arith,
+      word-next (inv .2) (inv .0) (at-find .find-byte .ensures) (sym (at-is-word .is-word .ensures) ∙ c .before .if1 .left) (c .if2 .left),
+    )
 
 pub word-spec : {M : Type 1} → statement M
 word-spec =

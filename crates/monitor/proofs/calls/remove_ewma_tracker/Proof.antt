@@ -29,9 +29,11 @@ refused-requires-2 c κs = search needs
 returns-2 : tie.Need-returns-2
 unfolding removeTracker
 returns-2 c =
-    let e = rw (c .before .before .before .before .id-of .ensures) at (c .before .before .removed-tracker .ensures) in
+    let at-id = c .before .before .before .before in
+    let formed = at-id .before in
+    let e = rw (at-id .id-of .ensures) at (c .before .before .removed-tracker .ensures) in
     c .refused2 .ensures
-    ∙ ended-by _ (c .before .before .before .before .before .before .well-formed .ensures) _ _ _ (c .before .before .before .before .before .if1 .left) (rw (← e, le-ltb _ _ (c .before .if2 .taken))) refl
+    ∙ ended-by _ (formed .before .well-formed .ensures) _ _ _ (formed .if1 .left) (rw (← e, le-ltb _ _ (c .before .if2 .taken))) refl
 
 empty-tracker-requires : tie.Need-empty-tracker-requires
 empty-tracker-requires c κs = search needs
@@ -48,10 +50,12 @@ done-requires c κs = search needs
 returns-3 : tie.Need-returns-3
 unfolding removeTracker
 returns-3 c =
-    let e = rw (c .before .before .before .before .before .id-of .ensures) at (c .before .before .before .removed-tracker .ensures) in
+    let at-id = c .before .before .before .before .before in
+    let formed = at-id .before in
+    let e = rw (at-id .id-of .ensures) at (c .before .before .before .removed-tracker .ensures) in
     c .done .ensures
     ∙ (rw (c .before .empty-tracker .ensures, e)
-    (ended-done _ (c .before .before .before .before .before .before .before .well-formed .ensures) _ _ _ (c .before .before .before .before .before .before .if1 .left) (rw (← e, lt-ltb _ _ (c .before .before .if2 .left)))))
+    (ended-done _ (formed .before .well-formed .ensures) _ _ _ (formed .if1 .left) (rw (← e, lt-ltb _ _ (c .before .before .if2 .left)))))
 
 pub remove-ewma-tracker-spec : {M : Type 1} → statement M
 remove-ewma-tracker-spec =

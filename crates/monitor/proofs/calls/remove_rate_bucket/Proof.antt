@@ -29,9 +29,11 @@ refused-requires-2 c κs = search needs
 returns-2 : tie.Need-returns-2
 unfolding removeBucket
 returns-2 c =
-    let e = rw (c .before .before .before .before .id-of .ensures) at (c .before .before .removed-bucket .ensures) in
+    let at-id = c .before .before .before .before in
+    let formed = at-id .before in
+    let e = rw (at-id .id-of .ensures) at (c .before .before .removed-bucket .ensures) in
     c .refused2 .ensures
-    ∙ ended-by _ (c .before .before .before .before .before .before .well-formed .ensures) _ _ _ (c .before .before .before .before .before .if1 .left) (rw (← e, le-ltb _ _ (c .before .if2 .taken))) refl
+    ∙ ended-by _ (formed .before .well-formed .ensures) _ _ _ (formed .if1 .left) (rw (← e, le-ltb _ _ (c .before .if2 .taken))) refl
 
 empty-bucket-requires : tie.Need-empty-bucket-requires
 empty-bucket-requires c κs = search needs
@@ -48,10 +50,12 @@ done-requires c κs = search needs
 returns-3 : tie.Need-returns-3
 unfolding removeBucket
 returns-3 c =
-    let e = rw (c .before .before .before .before .before .id-of .ensures) at (c .before .before .before .removed-bucket .ensures) in
+    let at-id = c .before .before .before .before .before in
+    let formed = at-id .before in
+    let e = rw (at-id .id-of .ensures) at (c .before .before .before .removed-bucket .ensures) in
     c .done .ensures
     ∙ (rw (c .before .empty-bucket .ensures, e)
-    (ended-done _ (c .before .before .before .before .before .before .before .well-formed .ensures) _ _ _ (c .before .before .before .before .before .before .if1 .left) (rw (← e, lt-ltb _ _ (c .before .before .if2 .left)))))
+    (ended-done _ (formed .before .well-formed .ensures) _ _ _ (formed .if1 .left) (rw (← e, lt-ltb _ _ (c .before .before .if2 .left)))))
 
 pub remove-rate-bucket-spec : {M : Type 1} → statement M
 remove-rate-bucket-spec =

@@ -9,6 +9,19 @@ use borrow.Author.Needs.{needs}
 use Rattle.monitor.proofs.inspection.inspect.Statement.{statement}
 use Rattle.monitor.proofs.inspection.inspect.Tie as tie
 
+-- where each test was passed, seen from the next place: the payload is lent whole, the topic is, the state is well formed; and the start
+abbrev at-payload : tie.After-plan-for → tie.Else3
+at-payload c = c .before .before .before
+
+abbrev at-topic : tie.Else3 → tie.Else2
+at-topic c = c .before .before .before
+
+abbrev at-formed : tie.Else2 → tie.Else1
+at-formed c = c .before .before .before
+
+abbrev at-start : tie.Else1 → tie.Start
+at-start c = c .before .before .before .before
+
 well-formed-requires : tie.Need-well-formed-requires
 well-formed-requires c κs = search needs
 
@@ -28,7 +41,9 @@ refused-requires-2 : tie.Need-refused-requires-2
 refused-requires-2 c κs = search needs
 
 returns-2 : tie.Need-returns-2
-returns-2 c = short-topic portMatches _ _ _ _ (c .before .before .before .before .before .well-formed .ensures) (c .before .before .before .before .if1 .left) (c .before .before .used .ensures) (c .before .if2 .taken) (c .refused2 .ensures)
+returns-2 c =
+    let formed = c .before .before .before .before in
+    short-topic portMatches _ _ _ _ (formed .before .well-formed .ensures) (formed .if1 .left) (c .before .before .used .ensures) (c .before .if2 .taken) (c .refused2 .ensures)
 
 cast-used-2 : tie.Need-cast-used-2
 cast-used-2 c = search needs
@@ -40,7 +55,11 @@ refused-requires-3 : tie.Need-refused-requires-3
 refused-requires-3 c κs = search needs
 
 returns-3 : tie.Need-returns-3
-returns-3 c = short-payload portMatches _ _ _ _ (c .before .before .before .before .before .before .before .before .well-formed .ensures) (c .before .before .before .before .before .before .before .if1 .left) (c .before .before .before .before .before .used .ensures) (c .before .before .before .before .if2 .left) (c .before .before .used2 .ensures) (c .before .if3 .taken) (c .refused3 .ensures)
+returns-3 c =
+    let topic = c .before .before .before .before in
+    let formed = at-formed topic in
+    short-payload portMatches _ _ _ _ (formed .before .well-formed .ensures) (formed .if1 .left) (topic .before .used .ensures) (topic .if2 .left)
+    (c .before .before .used2 .ensures) (c .before .if3 .taken) (c .refused3 .ensures)
 
 slice-aggregate-plan-for : tie.Need-slice-aggregate-plan-for
 slice-aggregate-plan-for c = sym (length-take-le _ _ (c .before .before .before .before .if2 .left))
@@ -74,11 +93,11 @@ count-on-requires c κs = search needs
 
 -- the state after each store, where the ways from its test meet
 client-is : (c : tie.Joined4)
-    → let m = c .before .before .before .before .before .before .before .before .before .before .before .before .before .before .before .args .m in
+    → let m = at-start (at-formed (at-topic (at-payload (c .before .before)))) .args .m in
     let d = c .before .before .plan-for .result .seen in
     c .if4 .next ≡ withClients m (storedAt 16 (m .«client_hashes») (d .at) (d .entry))
 client-is c =
-    let m = c .before .before .before .before .before .before .before .before .before .before .before .before .before .before .before .args .m in
+    let m = at-start (at-formed (at-topic (at-payload (c .before .before)))) .args .m in
     let d = c .before .before .plan-for .result .seen in
     ⊎-elim
     (λ w. stored-yes (withClients m) 16 (m .«client_hashes») (d .at) (d .entry) (w .0 .taken) (w .2))
@@ -114,10 +133,13 @@ returns-4 c =
     let tracker = c .before .before .before in
     let bucket = tracker .before .before in
     let client = bucket .before .before in
-    let formed = c .before .before .before .before .before .before .before .before .before .before .before .before .before .before .before .before .before .before .before .well-formed .ensures in
+    let plan = client .before .before in
+    let payload = at-payload plan in
+    let topic = at-topic payload in
+    let formed = at-formed topic in
     let stored = stored-all _ _ (client-is client) (bucket-is bucket) (tracker-is tracker) (c .before .count-on .ensures) in
-    inspected portMatches _ _ _ _ formed (c .before .before .before .before .before .before .before .before .before .before .before .before .before .before .before .before .before .before .if1 .left) (c .before .before .before .before .before .before .before .before .before .before .before .before .before .before .before .before .used .ensures) (c .before .before .before .before .before .before .before .before .before .before .before .before .before .before .before .if2 .left) (c .before .before .before .before .before .before .before .before .before .before .before .before .before .used2 .ensures) (c .before .before .before .before .before .before .before .before .before .before .before .before .if3 .left)
-    (c .before .before .before .before .before .before .before .before .before .plan-for .ensures) stored
+    inspected portMatches _ _ _ _ (formed .before .well-formed .ensures) (formed .if1 .left) (topic .before .used .ensures) (topic .if2 .left)
+    (payload .before .used2 .ensures) (payload .if3 .left) (plan .plan-for .ensures) stored
 
 pub inspect-spec : {M : Type 1} → statement M
 inspect-spec =

@@ -25,8 +25,10 @@ refused-requires-2 c κs = search needs
 
 returns-2 : tie.Need-returns-2
 returns-2 c =
+    let plan = c .before .before .before in
+    let formed = plan .before .before in
     c .refused2 .ensures
-    ∙ add-refused _ _ _ _ _ (c .before .before .before .plan-rule .ensures) (c .before .before .before .before .before .before .well-formed .ensures) (c .before .before .before .before .before .if1 .left) (c .before .if2 .taken)
+    ∙ add-refused _ _ _ _ _ (plan .plan-rule .ensures) (formed .before .well-formed .ensures) (formed .if1 .left) (c .before .if2 .taken)
 
 stored-requires : tie.Need-stored-requires
 stored-requires c κs = plan-place _ _ _ _ _ _ (c .before .before .before .plan-rule .ensures) (c .before .if2 .left)
@@ -34,7 +36,9 @@ stored-requires c κs = plan-place _ _ _ _ _ _ (c .before .before .before .plan-
 returns-3 : tie.Need-returns-3
 returns-3 c =
     c .stored .ensures
-    ∙ add-stored _ _ _ _ _ (c .before .before .before .before .plan-rule .ensures) (c .before .before .before .before .before .before .before .well-formed .ensures) (c .before .before .before .before .before .before .if1 .left) (c .before .before .if2 .left)
+    ∙ (let plan = c .before .before .before .before in
+    let formed = plan .before .before in
+    add-stored _ _ _ _ _ (plan .plan-rule .ensures) (formed .before .well-formed .ensures) (formed .if1 .left) (c .before .before .if2 .left))
 
 pub add-rule-spec : {M : Type 1} → statement M
 add-rule-spec =

@@ -33,16 +33,22 @@ overwritten-requires c κs = search needs
 
 returns-2 : tie.Need-returns-2
 returns-2 c =
+    let counted = c .before .before .before in
+    let equal = counted .before in
+    let own = equal .before in
     rw (c .overwritten .ensures)
-    (plan-held _ _ _ _ _ _ (c .before .before .before .before .before .before .pattern-refusal .ensures) (c .before .before .before .before .before .if1 .left) (c .before .before .before .before .equal-rule .ensures) (c .before .before .before .counts .ensures) (c .before .before .if2 .taken))
+    (plan-held _ _ _ _ _ _ (own .before .pattern-refusal .ensures) (own .if1 .left) (equal .equal-rule .ensures) (counted .counts .ensures) (c .before .before .if2 .taken))
 
 not-taken-requires-2 : tie.Need-not-taken-requires-2
 not-taken-requires-2 c κs = search needs
 
 returns-3 : tie.Need-returns-3
 returns-3 c =
+    let counted = c .before .before .before in
+    let equal = counted .before in
+    let own = equal .before in
     c .not-taken2 .ensures
-    ∙ plan-full _ _ _ _ _ _ (c .before .before .before .before .before .before .pattern-refusal .ensures) (c .before .before .before .before .before .if1 .left) (c .before .before .before .before .equal-rule .ensures) (c .before .before .before .counts .ensures) (c .before .before .if2 .left) (c .before .if3 .taken)
+    ∙ plan-full _ _ _ _ _ _ (own .before .pattern-refusal .ensures) (own .if1 .left) (equal .equal-rule .ensures) (counted .counts .ensures) (c .before .before .if2 .left) (c .before .if3 .taken)
 
 rule-of-requires : tie.Need-rule-of-requires
 rule-of-requires c κs = accepted-length _ (sym (c .before .before .before .before .before .pattern-refusal .ensures) ∙ c .before .before .before .before .if1 .left) .1
@@ -52,8 +58,11 @@ add-t20 c = search needs
 
 returns-4 : tie.Need-returns-4
 returns-4 c =
+    let counted = c .before .before .before in
+    let equal = counted .before in
+    let own = equal .before in
     rw (c .rule-of .ensures)
-    (plan-new _ _ _ _ _ _ (c .before .before .before .before .before .before .pattern-refusal .ensures) (c .before .before .before .before .before .if1 .left) (c .before .before .before .before .equal-rule .ensures) (c .before .before .before .counts .ensures) (c .before .before .if2 .left) (c .before .if3 .left))
+    (plan-new _ _ _ _ _ _ (own .before .pattern-refusal .ensures) (own .if1 .left) (equal .equal-rule .ensures) (counted .counts .ensures) (c .before .before .if2 .left) (c .before .if3 .left))
 
 pub plan-rule-spec : {M : Type 1} → statement M
 plan-rule-spec =

@@ -39,9 +39,11 @@ done-requires c κs = search needs
 returns-3 : tie.Need-returns-3
 unfolding removeRule
 returns-3 c =
+    let held = c .before .before .before .before in
+    let formed = held .before .before in
     c .done .ensures
     ∙ (rw (c .before .before .without .ensures)
-    (ended-done _ (c .before .before .before .before .before .before .before .well-formed .ensures) _ _ _ (c .before .before .before .before .before .before .if1 .left) (rw (lt-ltb _ _ (c .before .before .before .before .if2 .left)))))
+    (ended-done _ (formed .before .well-formed .ensures) _ _ _ (formed .if1 .left) (rw (lt-ltb _ _ (held .if2 .left)))))
 
 pub remove-rule-spec : {M : Type 1} → statement M
 remove-rule-spec =

@@ -25,9 +25,11 @@ buckets-fine-requires c κs = search needs
 returns-3 : tie.Need-returns-3
 unfolding wellFormed
 returns-3 c =
-    let r = c .before .before .before .before in
     let b = c .before .buckets-fine in
-    rw (le-leb _ _ (r .before .before .if1 .left), ← r .rules-fine .ensures, not-false (r .rules-fine .result) (c .before .before .before .if2 .left), ← b .ensures, not-true (b .result) (c .if3 .taken))
+    let at-if2 = c .before .before .before in
+    let r = at-if2 .before in
+    rw (le-leb _ _ (r .before .before .if1 .left), ← r .rules-fine .ensures, not-false (r .rules-fine .result) (at-if2 .if2 .left))
+    (rw (← b .ensures, not-true (b .result) (c .if3 .taken)))
 
 windows-fine-requires : tie.Need-windows-fine-requires
 windows-fine-requires c κs = search needs
@@ -35,11 +37,13 @@ windows-fine-requires c κs = search needs
 returns-4 : tie.Need-returns-4
 unfolding wellFormed
 returns-4 c =
-    let r = c .before .before .before .before .before .before .before in
-    let b = c .before .before .before .before .buckets-fine in
     let w = c .before .windows-fine in
-    rw (le-leb _ _ (r .before .before .if1 .left), ← r .rules-fine .ensures, not-false (r .rules-fine .result) (c .before .before .before .before .before .before .if2 .left))
-    (rw (← b .ensures, not-false (b .result) (c .before .before .before .if3 .left), ← w .ensures, not-true (w .result) (c .if4 .taken)))
+    let at-if3 = c .before .before .before in
+    let b = at-if3 .before .buckets-fine in
+    let at-if2 = at-if3 .before .before .before in
+    let r = at-if2 .before in
+    rw (le-leb _ _ (r .before .before .if1 .left), ← r .rules-fine .ensures, not-false (r .rules-fine .result) (at-if2 .if2 .left))
+    (rw (← b .ensures, not-false (b .result) (at-if3 .if3 .left), ← w .ensures, not-true (w .result) (c .if4 .taken)))
 
 trackers-fine-requires : tie.Need-trackers-fine-requires
 trackers-fine-requires c κs = search needs
@@ -47,11 +51,13 @@ trackers-fine-requires c κs = search needs
 returns-5 : tie.Need-returns-5
 unfolding wellFormed
 returns-5 c =
-    let r = c .before .before .before .before .before .before .before .before .before in
-    let b = c .before .before .before .before .before .before .buckets-fine in
     let w = c .before .before .before .windows-fine in
-    rw (le-leb _ _ (r .before .before .if1 .left), ← r .rules-fine .ensures, not-false (r .rules-fine .result) (c .before .before .before .before .before .before .before .before .if2 .left))
-    (rw (← b .ensures, not-false (b .result) (c .before .before .before .before .before .if3 .left), ← w .ensures, not-false (w .result) (c .before .before .if4 .left))
+    let at-if3 = c .before .before .before .before .before in
+    let b = at-if3 .before .buckets-fine in
+    let at-if2 = at-if3 .before .before .before in
+    let r = at-if2 .before in
+    rw (le-leb _ _ (r .before .before .if1 .left), ← r .rules-fine .ensures, not-false (r .rules-fine .result) (at-if2 .if2 .left))
+    (rw (← b .ensures, not-false (b .result) (at-if3 .if3 .left), ← w .ensures, not-false (w .result) (c .before .before .if4 .left))
     (c .trackers-fine .ensures))
 
 pub well-formed-spec : {M : Type 1} → statement M

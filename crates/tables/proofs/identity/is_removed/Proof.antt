@@ -26,18 +26,19 @@ returns-3 c =
 same-prefix-requires : tie.Need-same-prefix-requires
 same-prefix-requires c κs = search needs
 
+-- each identity has 32 bytes of prefix
+prefixes : (c : tie.Start) → (length (c .args .held .prefix) ≡ 32) × (length (c .args .id .prefix) ≡ 32)
+prefixes c = (search needs, search needs)
+
 returns-4 : tie.Need-returns-4
 unfolding isRemoved
 returns-4 c =
-    let g = c .before .before .before .before .before .before .before .before .before .before .before .before .good in
-    let s = c .before .before .before .before .before .before .before .before .before .before .before .before .args in
-    let m : length (s .held .prefix) ≡ 32 = search (needs, g) in
-    let n : length (s .id .prefix) ≡ 32 = search (needs, g) in
     let d = c .before .before .before in
     let b = d .before .before .before in
     let a = b .before .before .before in
+    let long = prefixes (a .before .before .before) in
     rw (eq-eqb _ _ (a .if1 .left), eq-eqb _ _ (b .if2 .left), eq-eqb _ _ (d .if3 .left))
-    (c .same-prefix .ensures ∙ same-whole _ _ m n)
+    (c .same-prefix .ensures ∙ same-whole _ _ (long .0) (long .1))
 
 pub is-removed-spec : {M : Type 1} → statement M
 is-removed-spec = tie.close (tie.spec returns returns-2 returns-3 same-prefix-requires returns-4)
