@@ -28,6 +28,8 @@ use Rattle.hub.proofs.matching.hub_contains_invalid_publish_char as matching-hu
 use Rattle.hub.proofs.matching.hub_contains_invalid_publish_char.Reads as matching-hub-contains-invalid-publish-char-reads
 use Rattle.hub.proofs.tracing.hub_trace as tracing-hub-trace
 use Rattle.hub.proofs.tracing.hub_trace.Reads as tracing-hub-trace-reads
+use Rattle.hub.proofs.tracing.hub_trace_length as tracing-hub-trace-length
+use Rattle.hub.proofs.tracing.hub_trace_length.Reads as tracing-hub-trace-length-reads
 
 pub one-hashing-hub-fnv1a-hash : One hashing-hub-fnv1a-hash.ended hashing-hub-fnv1a-hash-reads.Post
 one-hashing-hub-fnv1a-hash κs a x y e f p q = p ∙ sym q
@@ -106,3 +108,9 @@ one-tracing-hub-trace κs a x y e f p q = (p .0 ∙ sym (q .0), p .1 ∙ sym (q 
 
 pub any-tracing-hub-trace : Any tracing-hub-trace.ended tracing-hub-trace-reads.Asked
 any-tracing-hub-trace κs a = tt
+
+pub one-tracing-hub-trace-length : One tracing-hub-trace-length.ended tracing-hub-trace-length-reads.Post
+one-tracing-hub-trace-length κs a x y e f p q = p ∙ sym q
+
+pub any-tracing-hub-trace-length : Any tracing-hub-trace-length.ended tracing-hub-trace-length-reads.Asked
+any-tracing-hub-trace-length κs a = tt

@@ -23,6 +23,8 @@ use Rattle.trace.proofs.«record».write_record as record-write-record
 use Rattle.trace.proofs.«record».write_record.Reads as record-write-record-reads
 use Rattle.trace.proofs.run.load as run-load
 use Rattle.trace.proofs.run.load.Reads as run-load-reads
+use Rattle.trace.proofs.run.trace_length as run-trace-length
+use Rattle.trace.proofs.run.trace_length.Reads as run-trace-length-reads
 use Rattle.trace.proofs.run.run_trace as run-run-trace
 use Rattle.trace.proofs.run.run_trace.Reads as run-run-trace-reads
 
@@ -79,6 +81,12 @@ one-run-load κs a x y e f p q = p ∙ sym q
 
 pub any-run-load : Any run-load.ended run-load-reads.Asked
 any-run-load κs a = tt
+
+pub one-run-trace-length : One run-trace-length.ended run-trace-length-reads.Post
+one-run-trace-length κs a x y e f p q = p ∙ sym q
+
+pub any-run-trace-length : Any run-trace-length.ended run-trace-length-reads.Asked
+any-run-trace-length κs a = tt
 
 pub one-run-run-trace : OneLeft run-run-trace.ended run-run-trace-reads.Post (λ κs e. now (e .1 .0))
 one-run-run-trace κs a x y e f p q = (p .0 ∙ sym (q .0), p .1 ∙ sym (q .1))

@@ -312,6 +312,14 @@ fn pass(text: &[u8], out: &mut [u8], write: bool) -> TraceEnd
     pass_closing(out, p, 0, line, m.total_inspected, m.total_alerts, write)
 }
 
+// How a trace ends where there is room for all its lines, and how many bytes they take: the room that `run_trace` needs.
+pub fn trace_length(text: &[u8]) -> TraceEnd
+    ensures { λ r. ⌜ r ≡ wholeEnd (now (text .entry)) ⌝ }
+{
+    let mut unused = [0u8; 1];
+    pass(text, &mut unused, false)
+}
+
 // Whether the room is enough for what a trace prints. Only where it could be too small is that counted.
 fn fits(text: &[u8], room: usize) -> bool
     ensures { λ r. ⌜ r ≡ leb (length (traceText (now (text .entry)))) room ⌝ }
@@ -319,9 +327,7 @@ fn fits(text: &[u8], room: usize) -> bool
     if ENOUGH <= room {
         return true;
     }
-    let mut unused = [0u8; 1];
-    let counted = pass(text, &mut unused, false);
-    counted.length <= room
+    trace_length(text).length <= room
 }
 
 // A whole trace into a lent buffer: 28, with nothing written, where the buffer is shorter than all lines.
