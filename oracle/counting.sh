@@ -7,14 +7,14 @@ original() {
     touch "$room/built"
 }
 
-# host NAME: builds a program of oracle/src over the original and the archive of hub, which is proved once a run.
+# host [--lto] NAME: builds a program of oracle/src over the original and the archive of hub, which is proved once a run.
 host() {
     if [ -z "${HUB_ARCHIVE-}" ]; then
         rt staticlib hub >&2
         HUB_ARCHIVE=$root/target/staticlib
     fi
     original
-    oracle/host "$1" "$HUB_ARCHIVE"
+    oracle/host "$@" "$HUB_ARCHIVE"
 }
 
 # The traces that we measure with, in $room/traces.
@@ -61,4 +61,22 @@ differences() {
     awk -F'|' '
         NR % 2 { parts = $2; ours = $3; theirs = $4; next }
         { n = $2 - parts; a = ($3 - ours) / n; b = ($4 - theirs) / n; printf "| %s | %d | %d | %.2f |\n", $1, a, b, a / b }' "$room/counts"
+}
+
+# passes NAMES HOST WORDS...: each two rows are one, a buffer with room for any answer and one of exactly its length, divided by the parts; beside it the Rust of the
+# same host built with --lto.
+passes() {
+    names=$1 program=$2
+    shift 2
+    counts "$names" "$program" "$@"
+    mv "$room/counts" "$room/plain"
+    counts "$names" "$program-lto" "$@"
+    echo '| What | Rattle | exact buffer | Rust | Ratio | exact | Rust, LTO | Ratio | exact |'
+    echo '|---|---|---|---|---|---|---|---|---|'
+    paste -d'|' "$room/plain" "$room/counts" | awk -F'|' '
+        NR % 2 { roomy = int($3 / $2); next }
+        {
+            exact = int($3 / $2); rust = int($4 / $2); lto = int($8 / $2)
+            printf "| %s | %d | %d | %d | %.2f | %.2f | %d | %.2f | %.2f |\n", $1, roomy, exact, rust, roomy / rust, exact / rust, lto, roomy / lto, exact / lto
+        }'
 }

@@ -1,7 +1,8 @@
 //! benchtraces: whole traces, text in and text out, by the archive and by the Rust driver over the original, for
 //! bin/measure.
 //!   benchtraces write FOLDER    writes the traces that we measure with, a file each
-//!   benchtraces count FILE..    each once by either side, a row counted by the message
+//!   benchtraces count FILE..    each twice by either side, two rows counted by the message: with room for any answer,
+//!                               and with a buffer of exactly the answer's length
 //!   benchtraces stack FILE..    the deepest stack of either side
 
 mod hub;
@@ -74,18 +75,24 @@ fn busy() -> Vec<u8> {
 
 fn count(file: &Path) {
     let text = std::fs::read(file).unwrap();
-    let hub = || {
-        let mut out = vec![0; ROOM];
-        let length = hub::trace(black_box(&text), &mut out).length;
-        out.truncate(length);
-        out
-    };
-    let rust = || {
-        let mut out = Vec::with_capacity(ROOM);
-        rust_trace(black_box(&text), &mut out);
-        out
-    };
-    row(&file.file_stem().unwrap().to_string_lossy(), messages(&text).max(1), hub, rust);
+    let name = file.file_stem().unwrap().to_string_lossy();
+    let parts = messages(&text).max(1);
+    let mut answer = Vec::new();
+    trace::run(&text, &mut answer);
+    for room in [ROOM, answer.len()] {
+        let hub = || {
+            let mut out = vec![0; room];
+            let length = hub::trace(black_box(&text), &mut out).length;
+            out.truncate(length);
+            out
+        };
+        let rust = || {
+            let mut out = Vec::with_capacity(room);
+            rust_trace(black_box(&text), &mut out);
+            out
+        };
+        row(&name, parts, hub, rust);
+    }
 }
 
 fn print_stack(files: &[String]) {

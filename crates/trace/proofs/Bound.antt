@@ -1,5 +1,6 @@
--- What a trace prints is at most `enough` bytes (`trace-enough`), so a buffer of that size never meets 28. A message that was read takes 44 bytes of the text or more, so a text of 65,536 bytes has at
--- most 1,489 of them; each prints at most 528 bytes, and the closing lines at most 109. Assumes nothing.
+-- What a trace prints is at most 12 bytes for each byte of its text, or 109 (`trace-within`), so at most `enough` whatever the text is (`trace-enough`): a buffer of that size never
+-- meets 28. A message that was read takes 44 bytes of the text or more and prints at most 528; the closing lines are at most 109, and an opening that was read takes 16.
+-- Assumes nothing.
 use Prim.Native.Nat.{ℕ, zero, suc, _+_, _-_, _*_, _^_, _≤_, _<_}
 use mathlib.Core.Path.{_≡_, refl}
 use mathlib.Core.Bool.{_&&_}
@@ -7,7 +8,7 @@ use mathlib.Core.List.{List, [], _∷_}
 use native.Mathlib.Omega.{arith}
 use lib.Dec.{eqb, leb, ltb}
 use lib.ListN.{length, length-append}
-use borrow.Author.Tests.{eqb-true, leb-true, leb-false}
+use borrow.Author.Tests.{eqb-true, eqb-false, leb-true, leb-false}
 use Rattle.topics.specs.Levels.{levels, has}
 use Rattle.topics.specs.Matching.{portMatches}
 use Rattle.topics.specs.Patterns.{wellPlaced, countOf, patternRefusal}
@@ -23,13 +24,14 @@ use Rattle.monitor.specs.declared.state.Called.{Called}
 use Rattle.monitor.specs.declared.state.MqttMonitor.{MqttMonitor}
 use Rattle.monitor.proofs.FoundLaws.{either}
 use Rattle.trace.specs.Groups.{openingOf, ruleAt, messageAt}
-use Rattle.trace.specs.Trace.{Loaded, ruleInto, rulesInto, loadedFrom, loaded, messagesFrom, messagesOf, textFrom, traceText, enough}
+use Rattle.trace.specs.Trace.{Loaded, Messages, ruleInto, rulesInto, loadedFrom, loaded, messagesFrom, messagesOf, textFrom, traceText, enough}
 use Rattle.trace.proofs.RecordLaws.{closing-short}
-use Rattle.trace.proofs.GroupLaws.{opening-within, rule-within, message-within, message-further}
+use Rattle.trace.proofs.GroupLaws.{opening-within, opening-further, rule-within, rule-further, message-within, message-further}
 use Rattle.trace.proofs.PlanBounds.{Counted, applied-counted, result-short}
 
 -- the text of so many messages
-text-short : (xs : List Call) (m : MqttMonitor) (n number line : ℕ) → Counted m → n + length xs ≤ 2 ^ 64 → number < 2 ^ 64 → line < 2 ^ 64 → length (textFrom m n xs number line) ≤ 528 * length xs + 109
+text-short : (xs : List Call) (m : MqttMonitor) (n number line : ℕ) → Counted m → n + length xs ≤ 2 ^ 64 → number < 2 ^ 64 → line < 2 ^ 64
+    → length (textFrom m n xs number line) ≤ 528 * length xs + 109
 unfolding textFrom
 text-short [] m n number line c h a b = omega (arith, closing-short number line _ _ a b (c .inspected64) (c .total64))
 text-short (x ∷ xs) m n number line c h a b =
@@ -41,7 +43,9 @@ text-short (x ∷ xs) m n number line c h a b =
     ))
 
 -- the messages from a place on: how many there are at most, and how they end
-pub sent-few : (k : ℕ) (s : List ℕ) (at line : ℕ) → (44 * length (messagesFrom k s at line .sent) ≤ length s - at) × (messagesFrom k s at line .number ≤ 26) × (messagesFrom k s at line .line ≤ line + 7 * length (messagesFrom k s at line .sent) + 7)
+pub sent-few : (k : ℕ) (s : List ℕ) (at line : ℕ)
+    → (44 * length (messagesFrom k s at line .sent) ≤ length s - at) × (messagesFrom k s at line .number ≤ 26)
+    × (messagesFrom k s at line .line ≤ line + 7 * length (messagesFrom k s at line .sent) + 7)
 unfolding messagesFrom
 sent-few zero s at line = (omega arith, omega arith, omega arith)
 sent-few (suc k) s at line =
@@ -120,7 +124,8 @@ loaded-few s =
     let w = opening-within s refl in
     either (λ (l : Loaded). Few l 130) (leb (length s) 65536)
     (either (λ (l : Loaded). Few l 130) (eqb (openingOf s .number) 0)
-    (let r = rules-few (openingOf s .rules) s (record { number = 0; line = 2; next = openingOf s .next; monitor = fresh (openingOf s .«default_action») }) 2 (record { counted = fresh-counted _; known = omega arith; line = omega arith }) in
+    (let start : Loaded = record { number = 0; line = 2; next = openingOf s .next; monitor = fresh (openingOf s .«default_action») } in
+    let r = rules-few (openingOf s .rules) s start 2 (record { counted = fresh-counted _; known = omega arith; line = omega arith }) in
     record { counted = r .counted; known = r .known; line = omega (arith, r .line, w .count) })
     (record { counted = fresh-counted _; known = omega (arith, w .known); line = omega (arith, w .line) }))
     (record { counted = fresh-counted _; known = omega arith; line = omega arith })
@@ -130,21 +135,77 @@ pub loaded-short : (s : List ℕ) → loaded s .number ≡ 0 → length s ≤ 65
 unfolding loaded
 loaded-short s e = by (leb (length s) 65536) (λ t. leb-true _ _ t) (λ t. absurd (let z : _≡_ {A = ℕ} 27 0 = rw t at e in omega arith))
 
--- the messages of a trace: how many there are at most, and how they end
-pub messages-few : (s : List ℕ) → (44 * length (messagesOf s .sent) ≤ 65536) × (messagesOf s .number < 2 ^ 64) × (messagesOf s .line < 2 ^ 64)
+-- rules that were loaded go on from where they began
+rule-goes : (m : MqttMonitor) (s : List ℕ) (line at : ℕ) → ruleInto m s line (ruleAt s at) .number ≡ 0 → at ≤ ruleInto m s line (ruleAt s at) .next
+unfolding ruleInto
+rule-goes m s line at =
+    by (eqb (ruleAt s at .number) 0)
+    (λ t. rw t (λ e. rule-further s at (eqb-true _ _ t)))
+    (λ t. rw t (λ e. absurd (eqb-false _ _ t e)))
+
+rules-begun : (k : ℕ) (s : List ℕ) (l : Loaded) → rulesInto k s l .number ≡ 0 → l .number ≡ 0
+unfolding rulesInto
+rules-begun zero s l e = e
+rules-begun (suc k) s l e = by (eqb (l .number) 0) (λ t. eqb-true _ _ t) (λ t. rw t at e)
+
+rules-go : (k : ℕ) (s : List ℕ) (l : Loaded) → rulesInto k s l .number ≡ 0 → l .next ≤ rulesInto k s l .next
+unfolding rulesInto
+rules-go zero s l e = omega arith
+rules-go (suc k) s l e =
+    let next : Loaded = ruleInto (l .monitor) s (l .line) (ruleAt s (l .next)) in
+    by (eqb (l .number) 0)
+    (λ t.
+    let f : rulesInto k s next .number ≡ 0 = rw t at e in
+    rw t (omega (arith, rule-goes (l .monitor) s (l .line) (l .next) (rules-begun k s next f), rules-go k s next f)))
+    (λ t. rw t (omega arith))
+
+-- the opening of a text that was loaded takes 16 or more
+pub loaded-further : (s : List ℕ) → loaded s .number ≡ 0 → 16 ≤ loaded s .next
+unfolding loaded loadedFrom
+loaded-further s =
+    by (leb (length s) 65536)
+    (λ t.
+    by (eqb (openingOf s .number) 0)
+    (λ u. rw (t, u) (λ e. omega (arith, opening-further s (eqb-true _ _ u), rules-go (openingOf s .rules) s _ e)))
+    (λ u. rw (t, u) (λ e. absurd (eqb-false _ _ u e))))
+    (λ t. rw t (λ e. absurd (let z : _≡_ {A = ℕ} 27 0 = e in omega arith)))
+
+-- the messages of a trace: how many there are at most, in a text of any length and in the longest, and how they end
+pub record FewMessages (s : List ℕ) (ms : Messages) : Type 0 where
+  pub within : 44 * length (ms .sent) ≤ length s - 16
+  pub most : 44 * length (ms .sent) ≤ 65536
+  pub known : ms .number < 2 ^ 64
+  pub last : ms .line < 2 ^ 64
+
+pub messages-few : (s : List ℕ) → FewMessages s (messagesOf s)
 unfolding messagesOf
 messages-few s =
     let f = loaded-few s in
     by (eqb (loaded s .number) 0)
     (λ t.
-    let l = loaded-short s (eqb-true _ _ t) in
+    let z : loaded s .number ≡ 0 = eqb-true _ _ t in
     let r = sent-few (length s + 1) s (loaded s .next) (loaded s .line) in
-    rw t (omega (arith, r), omega (arith, r), omega (arith, r, f .line)))
-    (λ t. rw t (omega arith, omega (arith, f .known), omega (arith, f .line)))
+    rw t
+    (record {
+      within = omega (arith, r, loaded-further s z);
+      most = omega (arith, r, loaded-short s z);
+      known = omega (arith, r);
+      last = omega (arith, r, f .line, loaded-short s z);
+    }))
+    (λ t. rw t (record { within = omega arith; most = omega arith; known = omega (arith, f .known); last = omega (arith, f .line) }))
+
+-- what they print, with the closing lines
+trace-short : (s : List ℕ) → length (traceText s) ≤ 528 * length (messagesOf s .sent) + 109
+unfolding traceText
+trace-short s =
+    let few = messages-few s in
+    let ms = messagesOf s in
+    text-short (ms .sent) (loaded s .monitor) 1 (ms .number) (ms .line) (loaded-few s .counted) (omega (arith, few .most)) (few .known) (few .last)
+
+-- a room of 12 bytes for each byte of the text, and of 109 at least, is enough for what a trace prints
+pub trace-within : (s : List ℕ) (room : ℕ) → 12 * length s ≤ room → 109 ≤ room → length (traceText s) ≤ room
+trace-within s room h g = omega (arith, h, g, trace-short s, messages-few s .within)
 
 -- what any trace prints fits into a buffer of that size
 pub trace-enough : (s : List ℕ) → length (traceText s) ≤ enough
-unfolding traceText
-trace-enough s =
-    let r = messages-few s in
-    omega (arith, text-short (messagesOf s .sent) (loaded s .monitor) 1 (messagesOf s .number) (messagesOf s .line) (loaded-few s .counted) (omega (arith, r)) (r .1) (r .2))
+trace-enough s = omega (arith, trace-short s, messages-few s .most)

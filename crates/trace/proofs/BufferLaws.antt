@@ -20,7 +20,8 @@ use Rattle.trace.proofs.LineBounds.{hex-value}
 use Rattle.trace.proofs.GroupLaws.{rule-cases, rule-within, message-cases, message-within, AllRead, qosOf, sizeOf}
 
 -- a line of hex that was read: the buffer begins with its bytes
-kept : (s : List ℕ) (at : ℕ) (key d : List ℕ) {room : ℕ} → length d ≡ room → hexField s at key room .number ≡ 0 → take (hexField s at key room .value) (hexKept s at key d) ≡ unhex (valueOf s (hexField s at key room))
+kept : (s : List ℕ) (at : ℕ) (key d : List ℕ) {room : ℕ} → length d ≡ room → hexField s at key room .number ≡ 0
+    → take (hexField s at key room .value) (hexKept s at key d) ≡ unhex (valueOf s (hexField s at key room))
 kept s at key d l e = rw (← l) (kept-bytes s at key d (rw (← l) at e))
 
 module _ (s : List ℕ) (at : ℕ) (d : List ℕ) where
@@ -29,7 +30,7 @@ module _ (s : List ℕ) (at : ℕ) (d : List ℕ) where
   pattern-bytes l =
       rule-cases s at (λ (r : RuleLines). r .number ≡ 0 → take (length (patternIn s r)) (patternKept s at d) ≡ patternIn s r)
       (λ f k w h z e. absurd (z e))
-      (λ p r e. rw (eq-eqb _ _ r, hex-value s at (bytes "pattern=") 128 p .0) (kept s at (bytes "pattern=") d l p))
+      (λ r e. rw (eq-eqb _ _ (r .rate), hex-value s at (bytes "pattern=") 128 (r .pattern) .0) (kept s at (bytes "pattern=") d l (r .pattern)))
 
   module _ (r : AllRead s at) where
     topic-kept : topicKept s at d ≡ hexKept s (qosOf s at .next) (bytes "topic=") d
@@ -65,7 +66,8 @@ module _ (s : List ℕ) (at : ℕ) (d : List ℕ) where
   payload-long z = rw (payload-kept (all-read z)) (kept-long s (sizeOf s at .next) (bytes "payload=") d)
 
 -- the pattern of a rule that was read is the first bytes of its buffer, which is as long as before
-pub pattern-part : (s : List ℕ) (at : ℕ) {r : RuleLines} (d : List ℕ) {e : List ℕ} {n : ℕ} → r ≡ ruleAt s at → r .number ≡ 0 → length d ≡ 128 → e ≡ patternKept s at d → n ≡ (r .«pattern_to» - r .«pattern_from») / 2 → (take n e ≡ patternIn s r) × (n ≤ length e) × (length e ≡ 128)
+pub pattern-part : (s : List ℕ) (at : ℕ) {r : RuleLines} (d : List ℕ) {e : List ℕ} {n : ℕ} → r ≡ ruleAt s at → r .number ≡ 0 → length d ≡ 128
+    → e ≡ patternKept s at d → n ≡ (r .«pattern_to» - r .«pattern_from») / 2 → (take n e ≡ patternIn s r) × (n ≤ length e) × (length e ≡ 128)
 pattern-part s at {r} d {e} {n} q z l k ne =
     let w = rule-within s at q in
     let u : length (patternIn s r) ≡ n =

@@ -1,5 +1,6 @@
--- What holds of every group of lines, on its definition. A group stopped at a refused line or was read whole: `opening-cases`, `rule-cases` and `message-cases` go by these cases. So it lies in its
--- text, its parts are as long as it says (`opening-within`, `rule-within`, `message-within`), and a message that was read takes at least the 44 bytes of its keys and LFs (`message-further`).
+-- What holds of every group of lines, on its definition. A group stopped at a refused line or was read whole: `opening-cases`, `rule-cases` and `message-cases` go by these cases.
+-- So it lies in its text, its parts are as long as it says (`opening-within`, `rule-within`, `message-within`), and one that was read takes at least the bytes of its keys and
+-- LFs: 16 for an opening, 44 for a message (`opening-further`, `rule-further`, `message-further`).
 -- Assumes nothing.
 use Prim.Native.Nat.{ℕ, _+_, _≤_}
 use mathlib.Core.Path.{_≡_}
@@ -34,7 +35,9 @@ module _ (s : List ℕ) where
   abbrev pub rulesOf : Field
   rulesOf = numberField s (defaultOf .next) (bytes "rules=") 0 32
 
-  pub opening-cases : (P : OpeningLines → Type 0) → ((f : Field) (k : ℕ) → Answer s f → k ≤ 1 → (f .number ≡ 0 → ⊥) → P (openingStopped f k)) → (defaultOf .number ≡ 0 → rulesOf .number ≡ 0 → P (opening2 defaultOf rulesOf)) → P (openingOf s)
+  pub opening-cases : (P : OpeningLines → Type 0)
+      → ((f : Field) (k : ℕ) → Answer s f → k ≤ 1 → (f .number ≡ 0 → ⊥) → P (openingStopped f k))
+      → (defaultOf .number ≡ 0 → rulesOf .number ≡ 0 → P (opening2 defaultOf rulesOf)) → P (openingOf s)
   unfolding openingOf opening1 opening2
   opening-cases P stop read =
       either P defaultOf
@@ -55,6 +58,16 @@ module _ (s : List ℕ) where
         count = number-value s (defaultOf .next) (bytes "rules=") 0 32 r;
       })))
 
+  -- an opening that was read lies at least the bytes of its keys and LFs further on
+  pub opening-further : openingOf s .number ≡ 0 → 16 ≤ openingOf s .next
+  unfolding opening2
+  opening-further =
+      opening-cases (λ (o : OpeningLines). o .number ≡ 0 → 16 ≤ o .next) (λ f k w h z e. absurd (z e))
+      (λ d r e.
+      let a = word-lies s 0 (bytes "default=") (bytes "allow|block") .further d in
+      let b = number-lies s (defaultOf .next) (bytes "rules=") 0 32 .further r in
+      rw (eq-eqb _ _ r) (omega arith))
+
 module _ (s : List ℕ) (at : ℕ) where
   -- the lines of a rule
   abbrev pub patternOf : Field
@@ -69,7 +82,16 @@ module _ (s : List ℕ) (at : ℕ) where
   abbrev pub rateOf : Field
   rateOf = numberField s (policyOf .next) (bytes "rate=") 0 65535
 
-  pub rule-cases : (P : RuleLines → Type 0) → ((f : Field) (k : ℕ) → Answer s f → k ≤ 3 → (f .number ≡ 0 → ⊥) → P (ruleStopped f k)) → (patternOf .number ≡ 0 → rateOf .number ≡ 0 → P (rule4 patternOf actionOf policyOf rateOf)) → P (ruleAt s at)
+  -- all of them were read
+  pub record RuleRead : Type 0 where
+    pub pattern : patternOf .number ≡ 0
+    pub action : actionOf .number ≡ 0
+    pub policy : policyOf .number ≡ 0
+    pub rate : rateOf .number ≡ 0
+
+  pub rule-cases : (P : RuleLines → Type 0)
+      → ((f : Field) (k : ℕ) → Answer s f → k ≤ 3 → (f .number ≡ 0 → ⊥) → P (ruleStopped f k))
+      → (RuleRead → P (rule4 patternOf actionOf policyOf rateOf)) → P (ruleAt s at)
   unfolding ruleAt rule1 rule2 rule3 rule4
   rule-cases P stop read =
       either P patternOf
@@ -78,7 +100,7 @@ module _ (s : List ℕ) (at : ℕ) where
       (λ a.
       either P policyOf
       (λ q.
-      either P rateOf (λ r. rw (eq-eqb _ _ r) at (read p r)) (stop rateOf 3 (number-lies s (policyOf .next) (bytes "rate=") 0 65535 .answer) (omega arith)))
+      either P rateOf (λ r. rw (eq-eqb _ _ r) at (read (record { pattern = p; action = a; policy = q; rate = r }))) (stop rateOf 3 (number-lies s (policyOf .next) (bytes "rate=") 0 65535 .answer) (omega arith)))
       (stop policyOf 2 (word-lies s (actionOf .next) (bytes "qos=") (bytes "any|min0|min1|min2|only0|only1|only2") .answer) (omega arith)))
       (stop actionOf 1 (word-lies s (patternOf .next) (bytes "action=") (bytes "allow|block") .answer) (omega arith)))
       (stop patternOf 0 (hex-lies s at (bytes "pattern=") 128 .answer) (omega arith))
@@ -89,10 +111,10 @@ module _ (s : List ℕ) (at : ℕ) where
       rw e
       (rule-cases (RuleIn s)
       (λ f k w h z. record { after = w .within .after; line = h; known = w .known; ordered = omega arith; inside = omega arith; short = omega arith })
-      (λ p r.
+      (λ r.
       let w = hex-lies s at (bytes "pattern=") 128 .answer .within in
-      let v = hex-value s at (bytes "pattern=") 128 p in
-      rw (eq-eqb _ _ r)
+      let v = hex-value s at (bytes "pattern=") 128 (r .pattern) in
+      rw (eq-eqb _ _ (r .rate))
       (record {
         after = number-lies s (policyOf .next) (bytes "rate=") 0 65535 .answer .within .after;
         line = omega arith;
@@ -101,6 +123,18 @@ module _ (s : List ℕ) (at : ℕ) where
         inside = w .inside;
         short = omega (arith, v);
       })))
+
+  -- a rule that was read lies further on
+  pub rule-further : ruleAt s at .number ≡ 0 → at ≤ ruleAt s at .next
+  unfolding rule4
+  rule-further =
+      rule-cases (λ (r : RuleLines). r .number ≡ 0 → at ≤ r .next) (λ f k w h z e. absurd (z e))
+      (λ r e.
+      let a = hex-lies s at (bytes "pattern=") 128 .further (r .pattern) in
+      let b = word-lies s (patternOf .next) (bytes "action=") (bytes "allow|block") .further (r .action) in
+      let c = word-lies s (actionOf .next) (bytes "qos=") (bytes "any|min0|min1|min2|only0|only1|only2") .further (r .policy) in
+      let d = number-lies s (policyOf .next) (bytes "rate=") 0 65535 .further (r .rate) in
+      rw (eq-eqb _ _ (r .rate)) (omega arith))
 
 module _ (s : List ℕ) (at : ℕ) where
   -- the lines of a message
@@ -135,7 +169,9 @@ module _ (s : List ℕ) (at : ℕ) where
     pub size : sizeOf .number ≡ 0
     pub payload : payloadOf .number ≡ 0
 
-  pub message-cases : (P : MessageLines → Type 0) → ((f : Field) (k : ℕ) → Answer s f → k ≤ 6 → (f .number ≡ 0 → ⊥) → P (messageStopped f k)) → (AllRead → P (message7 timeOf clockOf typeOf qosOf topicOf sizeOf payloadOf)) → P (messageAt s at)
+  pub message-cases : (P : MessageLines → Type 0)
+      → ((f : Field) (k : ℕ) → Answer s f → k ≤ 6 → (f .number ≡ 0 → ⊥) → P (messageStopped f k))
+      → (AllRead → P (message7 timeOf clockOf typeOf qosOf topicOf sizeOf payloadOf)) → P (messageAt s at)
   unfolding messageAt message1 message2 message3 message4 message5 message6 message7
   message-cases P stop read =
       either P timeOf

@@ -22,17 +22,14 @@ use monitor::state::MqttMonitor;
 use monitor::state::free_rules;
 use tables::rules::TopicAction;
 use tables::rules::TopicRule;
-ghost use mathlib.Core.Bool.{true};
+ghost use mathlib.Core.Bool.{true, _&&_};
 ghost use mathlib.Core.Path.{_≡_};
-ghost use Prim.Native.Nat.{_+_, _≤_};
+ghost use Prim.Native.Nat.{_+_, _*_, _≤_};
 ghost use lib.Dec.{leb};
 ghost use lib.ListN.{length};
 ghost use Rattle.monitor.specs.Calls.{fresh};
 ghost use Rattle.trace.specs.Record.{recordText, closingText};
 ghost use Rattle.trace.specs.Trace.{loaded, rulesOf, traceText, enough, putIf, wholeEnd, traceEnd, traceKept};
-
-// Room for what any trace prints.
-const ENOUGH: usize = 786432;
 
 // How a trace ended: 0 is whole, else the number that refused it, with the last or refused line and how many bytes were written; 28 writes nothing.
 #[repr(C)]
@@ -320,11 +317,21 @@ pub fn trace_length(text: &[u8]) -> TraceEnd
     pass(text, &mut unused, false)
 }
 
+// Whether a room is enough for what any text of so many bytes prints: 12 bytes for each of them, and 109 at least.
+fn ample(bytes: usize, room: usize) -> bool
+    ensures { λ r. ⌜ r ≡ (leb 109 room && leb (12 * bytes) room) ⌝ }
+{
+    if room < 109 {
+        return false;
+    }
+    bytes <= room / 12
+}
+
 // Whether the room is enough for what a trace prints. Only where it could be too small is that counted.
 fn fits(text: &[u8], room: usize) -> bool
     ensures { λ r. ⌜ r ≡ leb (length (traceText (now (text .entry)))) room ⌝ }
 {
-    if ENOUGH <= room {
+    if ample(text.len(), room) {
         return true;
     }
     trace_length(text).length <= room
