@@ -1,5 +1,5 @@
--- One turn of each loop: a rule more, stored or left out (`rule-taken`, `rule-left`), and a message more, by what its calls handed back (`state-turn`, `allowed-turn`, `from-turn`); the monitor between the loops
--- (`held-start`); and what the loop answers where it does not run. Assumes nothing.
+-- One turn of each loop: a rule more, stored or left out (`rule-taken`, `rule-left`), and a message more, by what its calls handed back (`state-turn`, `allowed-turn`, `from-turn`);
+-- the monitor between the loops (`held-start`); and what the loop answers where it does not run. Assumes nothing.
 use Prim.Native.Nat.{ℕ, zero, suc, _+_, _≤_, _<_}
 use mathlib.Core.Bool.{true, cond}
 use mathlib.Core.List.{List}

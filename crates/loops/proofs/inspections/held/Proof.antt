@@ -40,7 +40,9 @@ mul-rules : tie.Need-mul-rules Inv-loop μ-loop
 mul-rules c = record { fits = omega (arith, array-set-from-rules c) }
 
 -- the rules after the store, where the ways from its test meet
-rules-are : (c : tie.Joined1 Inv-loop μ-loop) → holding Block (c .if1 .rules) (c .if1 .rule-count) ≡ withRule (ruled (c .before .before .before .before .before .before .loop .k)) (c .before .before .before .before .pattern-of .result)
+rules-are : (c : tie.Joined1 Inv-loop μ-loop)
+    → let pattern = c .before .before .before .before in
+    holding Block (c .if1 .rules) (c .if1 .rule-count) ≡ withRule (ruled (pattern .before .before .loop .k)) (pattern .pattern-of .result)
 rules-are c =
     let em = c .before .before .before .before .before .before .loop .inv .1 in
     let e = c .before .before .plan-rule .ensures in
@@ -56,7 +58,10 @@ loop-less : tie.Need-loop-less Inv-loop μ-loop
 loop-less c = search needs
 
 loop-again : tie.Need-loop-again Inv-loop μ-loop
-loop-again c = (omega (arith, c .before .before .before .before .before .loop-test .taken), ruled-turn (c .before .before .before .before .before .before .loop .k) (c .before .before .before .before .pattern-of .ensures) (rules-are c))
+loop-again c =
+    let pattern = c .before .before .before .before in
+    let test = pattern .before in
+    (omega (arith, test .loop-test .taken), ruled-turn (test .before .loop .k) (pattern .pattern-of .ensures) (rules-are c))
 
 slice-aggregate-plan-rule-2 : tie.Need-slice-aggregate-plan-rule-2 Inv-loop μ-loop
 slice-aggregate-plan-rule-2 c = search needs
@@ -75,10 +80,16 @@ all-others : (c : tie.After-loop Inv-loop μ-loop) → c .before .loop .k ≡ c 
 all-others c = omega (arith, c .before .loop .inv .0, c .loop-test .left)
 
 returns : tie.Need-returns Inv-loop μ-loop
-returns c = rw (← all-others (c .before .before .before .before .before)) (ap rulesIn (rule-taken _ (c .before .before .before .before .before .before .loop .inv .1) _ (c .before .before .before .plan-rule2 .ensures) (c .before .if2 .taken)))
+returns c =
+    let plan = c .before .before .before in
+    let done = plan .before .before in
+    rw (← all-others done) (ap rulesIn (rule-taken _ (done .before .loop .inv .1) _ (plan .plan-rule2 .ensures) (c .before .if2 .taken)))
 
 returns-2 : tie.Need-returns-2 Inv-loop μ-loop
-returns-2 c = rw (← all-others (c .before .before .before .before)) (ap rulesIn (rule-left _ (c .before .before .before .before .before .loop .inv .1) _ (c .before .before .plan-rule2 .ensures) (c .if2 .left)))
+returns-2 c =
+    let plan = c .before .before in
+    let done = plan .before .before in
+    rw (← all-others done) (ap rulesIn (rule-left _ (done .before .loop .inv .1) _ (plan .plan-rule2 .ensures) (c .if2 .left)))
 
 pub held-spec : {M : Type 1} → statement M
 held-spec =

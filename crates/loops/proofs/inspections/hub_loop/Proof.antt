@@ -81,13 +81,20 @@ mul-tracker c = search needs
 element-set-from-tracker : tie.Need-element-set-from-tracker Inv-loop μ-loop
 element-set-from-tracker c = search needs
 
+-- places of a turn: that of the plan, seen from where the last store was made, and that of the loop's test, seen from the plan
+abbrev at-plan : tie.Joined5 Inv-loop μ-loop → tie.After-plan-for Inv-loop μ-loop
+at-plan c = c .before .before .before .before .before .before .before
+
+abbrev at-test : tie.After-plan-for Inv-loop μ-loop → tie.In-loop Inv-loop μ-loop
+at-test c = c .before .before .before .before
+
 -- the state after each store, where the ways from its test meet
 client-is : (c : tie.Joined3 Inv-loop μ-loop)
-    → let m = c .before .before .before .before .before .before .before .before .loop .m in
+    → let m = at-test (c .before .before .before) .before .loop .m in
     let d = c .before .before .before .plan-for .result .seen in
     c .if3 .m ≡ withClients m (storedAt 16 (m .«client_hashes») (d .at) (d .entry))
 client-is c =
-    let m = c .before .before .before .before .before .before .before .before .loop .m in
+    let m = at-test (c .before .before .before) .before .loop .m in
     let d = c .before .before .before .plan-for .result .seen in
     ⊎-elim
     (λ w. stored-yes (withClients m) 16 (m .«client_hashes») (d .at) (d .entry) (w .0 .taken) (w .2))
@@ -108,11 +115,11 @@ bucket-is c =
 
 tracker-is : (c : tie.Joined5 Inv-loop μ-loop)
     → let m = c .before .before .if4 .m in
-    let d = c .before .before .before .before .before .before .before .plan-for .result .fed in
+    let d = at-plan c .plan-for .result .fed in
     c .if5 .m ≡ withTrackers m (storedAt 16 (m .«ewma_trackers») (d .at) (d .tracker))
 tracker-is c =
     let m = c .before .before .if4 .m in
-    let d = c .before .before .before .before .before .before .before .plan-for .result .fed in
+    let d = at-plan c .plan-for .result .fed in
     ⊎-elim
     (λ w. stored-yes (withTrackers m) 16 (m .«ewma_trackers») (d .at) (d .tracker) (w .0 .taken) (w .2))
     (λ w. stored-no (withTrackers m) 16 (m .«ewma_trackers») (d .at) (d .tracker) (w .0 .left) (w .1))
@@ -129,23 +136,30 @@ few : (c : tie.After-within Inv-loop μ-loop) → c .before .before .before .bef
 few c = search needs
 
 add-k : tie.Need-add-k Inv-loop μ-loop
-add-k c = record { fits = omega (arith, few (c .before .before .before .before .before .before .before .before .before .before .before .before .before .before .before .before .before), c .before .before .before .before .before .before .before .before .before .before .before .before .before .before .loop-test .taken) }
+add-k c =
+    let test = at-test (at-plan (c .before .before .before)) in
+    record { fits = omega (arith, few (test .before .before .before), test .loop-test .taken) }
 
 loop-less : tie.Need-loop-less Inv-loop μ-loop
 loop-less c = search needs
 
 loop-again : tie.Need-loop-again Inv-loop μ-loop
 loop-again c =
-    let l = c .before .before .before .before .before .before .before .before .before .before .before .before .before .before .before in
+    let tracker = c .before .before .before in
+    let bucket = tracker .before .before in
+    let client = bucket .before .before in
+    let plan = at-plan tracker in
+    let msg = plan .before .before .before in
+    let test = at-test plan in
+    let l = test .before in
+    let inv = l .loop .inv in
     let a = l .before .before .before .before .before .before .args in
-    let plan = c .before .before .before .before .before .before .before .before .before .before in
-    let msg = c .before .before .before .before .before .before .before .before .before .before .before .before .before in
-    let stored = stored-all (l .loop .m) (plan .plan-for .result) (client-is (c .before .before .before .before .before .before .before)) (bucket-is (c .before .before .before .before .before)) (tracker-is (c .before .before .before)) (c .before .before .before .before .before .before .before .before .before .count-on .ensures) in (
-      omega (arith, c .before .before .before .before .before .before .before .before .before .before .before .before .before .before .loop-test .taken),
-      from-turn (length (a .topics .now)) (a .width) (l .loop .k) (l .loop .inv .1) (c .next-from .ensures),
+    let stored = stored-all (l .loop .m) (plan .plan-for .result) (client-is client) (bucket-is bucket) (tracker-is tracker) (client .before .before .count-on .ensures) in (
+      omega (arith, test .loop-test .taken),
+      from-turn (length (a .topics .now)) (a .width) (l .loop .k) (inv .1) (c .next-from .ensures),
       rw (c .next-from .ensures) (next-within (length (a .topics .now)) (a .width) (l .loop .from) (l .before .before .before .if2 .left)),
-      state-turn _ (a .topics .now) (a .width) (a .size) (l .loop .k) (l .loop .inv .3) (msg .message-at .ensures) (l .loop .inv .1) (plan .plan-for .ensures) stored,
-      allowed-turn _ (a .topics .now) (a .width) (a .size) (l .loop .k) (l .loop .inv .3) (msg .message-at .ensures) (l .loop .inv .1) (plan .plan-for .ensures) (l .loop .inv .4) (c .before .count-if .ensures),
+      state-turn _ (a .topics .now) (a .width) (a .size) (l .loop .k) (inv .3) (msg .message-at .ensures) (inv .1) (plan .plan-for .ensures) stored,
+      allowed-turn _ (a .topics .now) (a .width) (a .size) (l .loop .k) (inv .3) (msg .message-at .ensures) (inv .1) (plan .plan-for .ensures) (inv .4) (c .before .count-if .ensures),
     )
 
 returns-3 : tie.Need-returns-3 Inv-loop μ-loop
