@@ -33,8 +33,20 @@ slice-aggregate-number-line-len-4 c = search needs
 number-line-len-requires-4 : tie.Need-number-line-len-requires-4
 number-line-len-requires-4 c κs = search needs
 
-sum : (c : tie.After-number-line-len4) → (c .before .before .before .before .before .before .number-line-len .result + c .before .before .before .before .number-line-len2 .result + c .before .before .number-line-len3 .result + c .number-line-len4 .result ≡ length (closingText (c .before .before .before .before .before .before .before .before .args .number) (c .before .before .before .before .before .before .before .before .args .line) (c .before .before .before .before .before .before .before .before .args .inspected) (c .before .before .before .before .before .before .before .before .args .total))) × (c .before .before .before .before .before .before .number-line-len .result + c .before .before .before .before .number-line-len2 .result + c .before .before .number-line-len3 .result + c .number-line-len4 .result ≤ 109)
-sum c = closing-sum _ _ _ _ (omega arith) (omega arith) (omega arith) (omega arith) (c .before .before .before .before .before .before .number-line-len .ensures) (c .before .before .before .before .number-line-len2 .ensures) (c .before .before .number-line-len3 .ensures) (c .number-line-len4 .ensures)
+sum : (c : tie.After-number-line-len4)
+    → let number-line-len3 = c .before .before in
+    let number-line-len2 = number-line-len3 .before .before in
+    let number-line-len = number-line-len2 .before .before in
+    let args = number-line-len .before .before in
+    (number-line-len .number-line-len .result + number-line-len2 .number-line-len2 .result + number-line-len3 .number-line-len3 .result + c .number-line-len4 .result
+    ≡ length (closingText (args .args .number) (args .args .line) (args .args .inspected) (args .args .total)))
+    × (number-line-len .number-line-len .result + number-line-len2 .number-line-len2 .result + number-line-len3 .number-line-len3 .result + c .number-line-len4 .result ≤ 109)
+sum c =
+    let number-line-len3 = c .before .before in
+    let number-line-len2 = number-line-len3 .before .before in
+    let number-line-len = number-line-len2 .before .before in
+    closing-sum _ _ _ _ (omega arith) (omega arith) (omega arith) (omega arith) (number-line-len .number-line-len .ensures) (number-line-len2 .number-line-len2 .ensures)
+    (number-line-len3 .number-line-len3 .ensures) (c .number-line-len4 .ensures)
 
 add-result : tie.Need-add-result
 add-result c = omega (arith, sum c)

@@ -43,7 +43,16 @@ same-length c = search needs
 
 returns : tie.Need-returns
 unfolding alertText
-returns c = wrote-then (wrote-then (wrote-then (c .before .before .before .before .before .before .before .before .before .before .before .before .before .before .before .before .before .before .before .put-number-line .ensures) (c .before .before .before .before .before .before .before .before .before .before .before .before .before .put-number-line2 .ensures)) (rw (c .before .before .before .before .before .before .before .before .before .before .before .before .before .before .before .before .before .before .before .before .before .before .severity-number .ensures) at (c .before .before .before .before .before .before .before .before .put-number-line3 .ensures))) (c .before .before .put-hex-line .ensures)
+returns c =
+    let put-hex-line = c .before .before in
+    let put-number-line3 = put-hex-line .before .before .before .before .before .before in
+    let put-number-line2 = put-number-line3 .before .before .before .before .before in
+    let put-number-line = put-number-line2 .before .before .before .before .before .before in
+    let severity-number = put-number-line .before .before .before in
+    wrote-then
+    (wrote-then (wrote-then (put-number-line .put-number-line .ensures) (put-number-line2 .put-number-line2 .ensures))
+    (rw (severity-number .severity-number .ensures) at (put-number-line3 .put-number-line3 .ensures)))
+    (put-hex-line .put-hex-line .ensures)
 
 pub put-alert-spec : {M : Type 1} → statement M
 put-alert-spec =

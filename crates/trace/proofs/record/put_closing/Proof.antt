@@ -34,7 +34,14 @@ same-length c = search needs
 
 returns : tie.Need-returns
 unfolding closingText
-returns c = wrote-then (wrote-then (wrote-then (c .before .before .before .before .before .before .before .before .before .before .before .before .before .before .before .before .before .put-number-line .ensures) (c .before .before .before .before .before .before .before .before .before .before .before .before .put-number-line2 .ensures)) (c .before .before .before .before .before .before .before .put-number-line3 .ensures)) (c .before .before .put-number-line4 .ensures)
+returns c =
+    let put-number-line4 = c .before .before in
+    let put-number-line3 = put-number-line4 .before .before .before .before .before in
+    let put-number-line2 = put-number-line3 .before .before .before .before .before in
+    let put-number-line = put-number-line2 .before .before .before .before .before in
+    wrote-then
+    (wrote-then (wrote-then (put-number-line .put-number-line .ensures) (put-number-line2 .put-number-line2 .ensures)) (put-number-line3 .put-number-line3 .ensures))
+    (put-number-line4 .put-number-line4 .ensures)
 
 pub put-closing-spec : {M : Type 1} → statement M
 put-closing-spec =

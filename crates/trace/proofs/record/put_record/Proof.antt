@@ -37,7 +37,13 @@ same-length c = search needs
 
 returns : tie.Need-returns
 unfolding recordText
-returns c = wrote-then (wrote-then (wrote-then (c .before .before .before .before .before .before .before .before .before .before .before .before .before .before .before .before .put-number-line .ensures) (c .before .before .before .before .before .before .before .before .before .before .before .put-flag-line .ensures)) (c .before .before .before .before .before .before .put-number-line2 .ensures)) (c .before .before .put-alerts .ensures)
+returns c =
+    let put-alerts = c .before .before in
+    let put-number-line2 = put-alerts .before .before .before .before in
+    let put-flag-line = put-number-line2 .before .before .before .before .before in
+    let put-number-line = put-flag-line .before .before .before .before .before in
+    wrote-then (wrote-then (wrote-then (put-number-line .put-number-line .ensures) (put-flag-line .put-flag-line .ensures)) (put-number-line2 .put-number-line2 .ensures))
+    (put-alerts .put-alerts .ensures)
 
 pub put-record-spec : {M : Type 1} → statement M
 put-record-spec =

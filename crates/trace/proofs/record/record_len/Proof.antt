@@ -36,8 +36,18 @@ cast-alerts-len c = search needs
 alerts-len-requires : tie.Need-alerts-len-requires
 alerts-len-requires c κs = search needs
 
-sum : (c : tie.After-alerts-len) → (c .before .before .before .before .before .number-line-len .result + c .before .before .before .flag-line-len .result + c .before .number-line-len2 .result + c .alerts-len .result ≡ length (recordText (c .before .before .before .before .before .before .before .before .args .n) (c .before .before .before .before .before .before .before .before .args .result))) × (c .before .before .before .before .before .number-line-len .result + c .before .before .before .flag-line-len .result + c .before .number-line-len2 .result + c .alerts-len .result ≤ 528)
-sum c = record-sum _ _ (search needs) (search needs) (c .before .before .before .before .before .number-line-len .ensures) (c .before .before .before .flag-line-len .ensures) (c .before .number-line-len2 .ensures) (c .alerts-len .ensures)
+sum : (c : tie.After-alerts-len)
+    → let flag-line-len = c .before .before .before in
+    let number-line-len = flag-line-len .before .before in
+    let args = number-line-len .before .before .before in
+    (number-line-len .number-line-len .result + flag-line-len .flag-line-len .result + c .before .number-line-len2 .result + c .alerts-len .result ≡ length
+    (recordText (args .args .n) (args .args .result)))
+    × (number-line-len .number-line-len .result + flag-line-len .flag-line-len .result + c .before .number-line-len2 .result + c .alerts-len .result ≤ 528)
+sum c =
+    let flag-line-len = c .before .before .before in
+    let number-line-len = flag-line-len .before .before in
+    record-sum _ _ (search needs) (search needs) (number-line-len .number-line-len .ensures) (flag-line-len .flag-line-len .ensures)
+    (c .before .number-line-len2 .ensures) (c .alerts-len .ensures)
 
 add-result : tie.Need-add-result
 add-result c = omega (arith, sum c)

@@ -24,7 +24,12 @@ same-length : tie.Need-same-length
 same-length c = search needs
 
 returns-2 : tie.Need-returns-2
-returns-2 c = let e : c .before .before .before .before .before .before .args .write ≡ true = not-false _ (c .before .before .before .before .if1 .left) in (wrote-room (c .before .before .put-record .ensures) (c .before .before .before .before .before .before .pre .1 e), rw (e) (c .before .before .put-record .ensures .bytes))
+returns-2 c =
+    let put-record = c .before .before in
+    let if1 = put-record .before .before in
+    let κs = if1 .before .before in
+    let e : κs .args .write ≡ true = not-false _ (if1 .if1 .left) in
+    (wrote-room (put-record .put-record .ensures) (κs .pre .1 e), rw (e) (put-record .put-record .ensures .bytes))
 
 pub pass-record-spec : {M : Type 1} → statement M
 pass-record-spec =
