@@ -1,5 +1,5 @@
--- What holds of every line that is read at a place, on the definitions of `lines`: it lies in its text, and 26 is its highest number; one that was read ends further on by its key and its LF at least, and its value is in range.
--- Assumes nothing.
+-- What holds of every line that is read at a place, on the definitions of `lines`: it lies in its text, and 26 is its highest number; one that was read ends
+-- further on by its key and its LF at least, and its value is in range. Assumes nothing.
 use Prim.Native.Nat.{ℕ, _+_, _%_, _≤_}
 use mathlib.Core.Path.{_≡_, refl, sym, ap, _∙_}
 use mathlib.Core.Bool.{_&&_}
@@ -111,7 +111,8 @@ module _ (s : List ℕ) (at : ℕ) (key : List ℕ) where
       (λ t. rw t (by-number (decimalOf low high (valueOf s (lineAt s at key))) refl (rw t at e)))
       (λ t. absurd (eqb-false _ _ t (rw t at e)))
     where
-      by-number : (n : Number) → decimalOf low high (valueOf s (lineAt s at key)) ≡ n → answered (lineAt s at key) (placeIn s at) 22 n .number ≡ 0 → answered (lineAt s at key) (placeIn s at) 22 n .value ≤ high
+      by-number : (n : Number) → decimalOf low high (valueOf s (lineAt s at key)) ≡ n → answered (lineAt s at key) (placeIn s at) 22 n .number ≡ 0
+          → answered (lineAt s at key) (placeIn s at) 22 n .value ≤ high
       by-number (Value v) q e = decimal-range low high _ v q .1
       by-number Bad q e = absurd (omega (arith, e))
 

@@ -1,5 +1,5 @@
--- `trace::groups::read_message` meets its contract: each line, read or refused, as the definition has them; the buffers are written by the lines of topic and payload alone.
--- Assumes nothing.
+-- `trace::groups::read_message` meets its contract: each line, read or refused, as the definition has them; the buffers are written by the lines of topic and
+-- payload alone. Assumes nothing.
 use Prim.Native.Nat.{ℕ}
 use mathlib.Core.Path.{_≡_, refl}
 use mathlib.Core.List.{List}
@@ -283,19 +283,22 @@ cast-t43 : tie.Need-cast-t43
 cast-t43 c =
     let after-topic = c .before .before .before .before .before .before .before .before .before .before .before .before in
     let topic = after-topic .before .before in
-    let h = hex-fits _ _ _ 128 (topic-is topic) (after-topic .if5 .left) in omega arith
+    let h = hex-fits _ _ _ 128 (topic-is topic) (after-topic .if5 .left) in
+    omega arith
 
 cast-t44 : tie.Need-cast-t44
 cast-t44 c =
     let after-size = c .before .before .before .before .before .before .before .before .before in
     let size = after-size .before .before in
-    let h = number-fits _ _ _ 0 65535 (size .number-field4 .ensures .0) (after-size .if6 .left) in omega arith
+    let h = number-fits _ _ _ 0 65535 (size .number-field4 .ensures .0) (after-size .if6 .left) in
+    omega arith
 
 cast-t45 : tie.Need-cast-t45
 cast-t45 c =
     let after-payload = c .before .before .before .before .before in
     let payload = after-payload .before .before in
-    let h = hex-fits _ _ _ 256 (payload-is payload) (after-payload .if7 .left) in omega arith
+    let h = hex-fits _ _ _ 256 (payload-is payload) (after-payload .if7 .left) in
+    omega arith
 
 returns-8 : tie.Need-returns-8
 unfolding messageAt message1 message2 message3 message4 message5 message6 message7 topicKept topic1 topic2 topic3 topic4 payloadKept payload1 payload2 payload3 payload4 payload5 payload6

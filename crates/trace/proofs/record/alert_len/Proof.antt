@@ -43,25 +43,24 @@ hex-line-len-requires : tie.Need-hex-line-len-requires
 hex-line-len-requires c κs = search needs
 
 typed : (c : tie.After-hex-line-len)
-    → let args = c .before .before .before .before .before .before .before .before .before .before .before .before in
-    Typed (args .args .alert)
+    → let start = c .before .before .before .before .before .before .before .before .before .before .before .before in
+    Typed (start .args .alert)
 typed c = record { id64 = search needs; kind32 = search needs; hash32 = search needs }
 
 sum : (c : tie.After-hex-line-len)
-    → let number-line-len3 = c .before .before .before in
-    let number-line-len2 = number-line-len3 .before .before in
-    let number-line-len = number-line-len2 .before .before .before in
-    let args = number-line-len .before .before .before .before in
-    (number-line-len .number-line-len .result + number-line-len2 .number-line-len2 .result + number-line-len3 .number-line-len3 .result + c .hex-line-len .result ≡ length
-    (alertText (args .args .alert)))
-    × (number-line-len .number-line-len .result + number-line-len2 .number-line-len2 .result + number-line-len3 .number-line-len3 .result + c .hex-line-len .result ≤ 121)
+    → let level = c .before .before .before in
+    let kind = level .before .before in
+    let id = kind .before .before .before in
+    let start = id .before .before .before .before in
+    let all = id .number-line-len .result + kind .number-line-len2 .result + level .number-line-len3 .result + c .hex-line-len .result in
+    (all ≡ length (alertText (start .args .alert))) × (all ≤ 121)
 sum c =
-    let number-line-len3 = c .before .before .before in
-    let number-line-len2 = number-line-len3 .before .before in
-    let number-line-len = number-line-len2 .before .before .before in
-    let severity-number = number-line-len .before .before in
-    alert-sum _ (typed c) (number-line-len .number-line-len .ensures) (number-line-len2 .number-line-len2 .ensures) (severity-number .severity-number .ensures)
-    (number-line-len3 .number-line-len3 .ensures) (c .hex-line-len .ensures)
+    let level = c .before .before .before in
+    let kind = level .before .before in
+    let id = kind .before .before .before in
+    let severity = id .before .before in
+    alert-sum _ (typed c) (id .number-line-len .ensures) (kind .number-line-len2 .ensures) (severity .severity-number .ensures)
+    (level .number-line-len3 .ensures) (c .hex-line-len .ensures)
 
 add-result : tie.Need-add-result
 add-result c = omega (arith, sum c)

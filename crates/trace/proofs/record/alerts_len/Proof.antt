@@ -44,15 +44,15 @@ loop-less c = search needs
 loop-again : tie.Need-loop-again Inv-loop μ-loop
 loop-again c =
     let loop = c .before .before .before .before in
-    let args = loop .before in
-    let l : length (args .args .t1) ≡ 4 = search mapped-long in
-    (omega arith, (omega arith, (rw (alerts-more (args .args .t1) (loop .loop .i) (omega arith), length-append) (omega arith), omega arith)))
+    let start = loop .before in
+    let l : length (start .args .t1) ≡ 4 = search mapped-long in
+    (omega arith, (omega arith, (rw (alerts-more (start .args .t1) (loop .loop .i) (omega arith), length-append) (omega arith), omega arith)))
 
 returns-2 : tie.Need-returns-2 Inv-loop μ-loop
 returns-2 c =
-    let args = c .before .before in
-    let l : length (args .args .t1) ≡ 4 = search mapped-long in
-    (rw (alerts-all (args .args .t1) (c .before .loop .i) (args .args .count) (omega arith) (omega arith)) at (c .before .loop .inv .1 .1 .0), omega arith)
+    let start = c .before .before in
+    let l : length (start .args .t1) ≡ 4 = search mapped-long in
+    (rw (alerts-all (start .args .t1) (c .before .loop .i) (start .args .count) (omega arith) (omega arith)) at (c .before .loop .inv .1 .1 .0), omega arith)
 
 pub alerts-len-spec : {M : Type 1} → statement M
 alerts-len-spec =

@@ -34,19 +34,18 @@ number-line-len-requires-4 : tie.Need-number-line-len-requires-4
 number-line-len-requires-4 c κs = search needs
 
 sum : (c : tie.After-number-line-len4)
-    → let number-line-len3 = c .before .before in
-    let number-line-len2 = number-line-len3 .before .before in
-    let number-line-len = number-line-len2 .before .before in
-    let args = number-line-len .before .before in
-    (number-line-len .number-line-len .result + number-line-len2 .number-line-len2 .result + number-line-len3 .number-line-len3 .result + c .number-line-len4 .result
-    ≡ length (closingText (args .args .number) (args .args .line) (args .args .inspected) (args .args .total)))
-    × (number-line-len .number-line-len .result + number-line-len2 .number-line-len2 .result + number-line-len3 .number-line-len3 .result + c .number-line-len4 .result ≤ 109)
+    → let messages = c .before .before in
+    let last = messages .before .before in
+    let end = last .before .before in
+    let start = end .before .before in
+    let all = end .number-line-len .result + last .number-line-len2 .result + messages .number-line-len3 .result + c .number-line-len4 .result in
+    (all ≡ length (closingText (start .args .number) (start .args .line) (start .args .inspected) (start .args .total))) × (all ≤ 109)
 sum c =
-    let number-line-len3 = c .before .before in
-    let number-line-len2 = number-line-len3 .before .before in
-    let number-line-len = number-line-len2 .before .before in
-    closing-sum _ _ _ _ (omega arith) (omega arith) (omega arith) (omega arith) (number-line-len .number-line-len .ensures) (number-line-len2 .number-line-len2 .ensures)
-    (number-line-len3 .number-line-len3 .ensures) (c .number-line-len4 .ensures)
+    let messages = c .before .before in
+    let last = messages .before .before in
+    let end = last .before .before in
+    closing-sum _ _ _ _ (omega arith) (omega arith) (omega arith) (omega arith) (end .number-line-len .ensures) (last .number-line-len2 .ensures)
+    (messages .number-line-len3 .ensures) (c .number-line-len4 .ensures)
 
 add-result : tie.Need-add-result
 add-result c = omega (arith, sum c)

@@ -44,15 +44,15 @@ same-length c = search needs
 returns : tie.Need-returns
 unfolding alertText
 returns c =
-    let put-hex-line = c .before .before in
-    let put-number-line3 = put-hex-line .before .before .before .before .before .before in
-    let put-number-line2 = put-number-line3 .before .before .before .before .before in
-    let put-number-line = put-number-line2 .before .before .before .before .before .before in
-    let severity-number = put-number-line .before .before .before in
+    let hash = c .before .before in
+    let severity = hash .before .before .before .before .before .before in
+    let kind = severity .before .before .before .before .before in
+    let id = kind .before .before .before .before .before .before in
+    let number = id .before .before .before in
     wrote-then
-    (wrote-then (wrote-then (put-number-line .put-number-line .ensures) (put-number-line2 .put-number-line2 .ensures))
-    (rw (severity-number .severity-number .ensures) at (put-number-line3 .put-number-line3 .ensures)))
-    (put-hex-line .put-hex-line .ensures)
+    (wrote-then (wrote-then (id .put-number-line .ensures) (kind .put-number-line2 .ensures))
+    (rw (number .severity-number .ensures) at (severity .put-number-line3 .ensures)))
+    (hash .put-hex-line .ensures)
 
 pub put-alert-spec : {M : Type 1} → statement M
 put-alert-spec =

@@ -28,8 +28,8 @@ same-length c = wrote-length (c .before .before .loop .inv .1 .1)
 returns : tie.Need-returns Inv-loop μ-loop
 returns c =
     let loop = c .before .before in
-    let κs = loop .before .before in
-    let e : loop .loop .i ≡ κs .args .count = omega arith in rw e at (loop .loop .inv .1 .1)
+    let start = loop .before .before in
+    let e : loop .loop .i ≡ start .args .count = omega arith in rw e at (loop .loop .inv .1 .1)
 
 mul-alert : tie.Need-mul-alert Inv-loop μ-loop
 mul-alert c = search needs
@@ -48,20 +48,20 @@ loop-less c = search needs
 
 loop-again : tie.Need-loop-again Inv-loop μ-loop
 loop-again c =
-    let put-alert = c .before .before in
-    let loop = put-alert .before .before .before .before .before in
-    let κs = loop .before .before in
-    let l : length (κs .args .t3) ≡ 4 = search mapped-long in
-    (omega arith, (omega arith, rw (alerts-more (κs .args .t3) (loop .loop .i) (omega arith)) (wrote-then (loop .loop .inv .1 .1) (put-alert .put-alert .ensures))))
+    let put = c .before .before in
+    let loop = put .before .before .before .before .before in
+    let start = loop .before .before in
+    let l : length (start .args .t3) ≡ 4 = search mapped-long in
+    (omega arith, (omega arith, rw (alerts-more (start .args .t3) (loop .loop .i) (omega arith)) (wrote-then (loop .loop .inv .1 .1) (put .put-alert .ensures))))
 
 same-length-2 : tie.Need-same-length-2 Inv-loop μ-loop
 same-length-2 c = wrote-length (c .before .loop .inv .1 .1)
 
 returns-2 : tie.Need-returns-2 Inv-loop μ-loop
 returns-2 c =
-    let κs = c .before .before .before in
-    let l : length (κs .args .t3) ≡ 4 = search mapped-long in
-    rw (alerts-all (κs .args .t3) (c .before .loop .i) (κs .args .count) (omega arith) (omega arith)) at (c .before .loop .inv .1 .1)
+    let start = c .before .before .before in
+    let l : length (start .args .t3) ≡ 4 = search mapped-long in
+    rw (alerts-all (start .args .t3) (c .before .loop .i) (start .args .count) (omega arith) (omega arith)) at (c .before .loop .inv .1 .1)
 
 pub put-alerts-spec : {M : Type 1} → statement M
 put-alerts-spec =

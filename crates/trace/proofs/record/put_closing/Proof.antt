@@ -35,13 +35,13 @@ same-length c = search needs
 returns : tie.Need-returns
 unfolding closingText
 returns c =
-    let put-number-line4 = c .before .before in
-    let put-number-line3 = put-number-line4 .before .before .before .before .before in
-    let put-number-line2 = put-number-line3 .before .before .before .before .before in
-    let put-number-line = put-number-line2 .before .before .before .before .before in
+    let alerts = c .before .before in
+    let messages = alerts .before .before .before .before .before in
+    let last = messages .before .before .before .before .before in
+    let end = last .before .before .before .before .before in
     wrote-then
-    (wrote-then (wrote-then (put-number-line .put-number-line .ensures) (put-number-line2 .put-number-line2 .ensures)) (put-number-line3 .put-number-line3 .ensures))
-    (put-number-line4 .put-number-line4 .ensures)
+    (wrote-then (wrote-then (end .put-number-line .ensures) (last .put-number-line2 .ensures)) (messages .put-number-line3 .ensures))
+    (alerts .put-number-line4 .ensures)
 
 pub put-closing-spec : {M : Type 1} → statement M
 put-closing-spec =

@@ -38,12 +38,12 @@ same-length c = search needs
 returns : tie.Need-returns
 unfolding recordText
 returns c =
-    let put-alerts = c .before .before in
-    let put-number-line2 = put-alerts .before .before .before .before in
-    let put-flag-line = put-number-line2 .before .before .before .before .before in
-    let put-number-line = put-flag-line .before .before .before .before .before in
-    wrote-then (wrote-then (wrote-then (put-number-line .put-number-line .ensures) (put-flag-line .put-flag-line .ensures)) (put-number-line2 .put-number-line2 .ensures))
-    (put-alerts .put-alerts .ensures)
+    let alerts = c .before .before in
+    let count = alerts .before .before .before .before in
+    let allowed = count .before .before .before .before .before in
+    let ordinal = allowed .before .before .before .before .before in
+    wrote-then (wrote-then (wrote-then (ordinal .put-number-line .ensures) (allowed .put-flag-line .ensures)) (count .put-number-line2 .ensures))
+    (alerts .put-alerts .ensures)
 
 pub put-record-spec : {M : Type 1} → statement M
 put-record-spec =

@@ -37,16 +37,15 @@ alerts-len-requires : tie.Need-alerts-len-requires
 alerts-len-requires c κs = search needs
 
 sum : (c : tie.After-alerts-len)
-    → let flag-line-len = c .before .before .before in
-    let number-line-len = flag-line-len .before .before in
-    let args = number-line-len .before .before .before in
-    (number-line-len .number-line-len .result + flag-line-len .flag-line-len .result + c .before .number-line-len2 .result + c .alerts-len .result ≡ length
-    (recordText (args .args .n) (args .args .result)))
-    × (number-line-len .number-line-len .result + flag-line-len .flag-line-len .result + c .before .number-line-len2 .result + c .alerts-len .result ≤ 528)
+    → let allowed = c .before .before .before in
+    let ordinal = allowed .before .before in
+    let start = ordinal .before .before .before in
+    let all = ordinal .number-line-len .result + allowed .flag-line-len .result + c .before .number-line-len2 .result + c .alerts-len .result in
+    (all ≡ length (recordText (start .args .n) (start .args .result))) × (all ≤ 528)
 sum c =
-    let flag-line-len = c .before .before .before in
-    let number-line-len = flag-line-len .before .before in
-    record-sum _ _ (search needs) (search needs) (number-line-len .number-line-len .ensures) (flag-line-len .flag-line-len .ensures)
+    let allowed = c .before .before .before in
+    let ordinal = allowed .before .before in
+    record-sum _ _ (search needs) (search needs) (ordinal .number-line-len .ensures) (allowed .flag-line-len .ensures)
     (c .before .number-line-len2 .ensures) (c .alerts-len .ensures)
 
 add-result : tie.Need-add-result

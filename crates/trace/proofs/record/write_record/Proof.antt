@@ -15,8 +15,8 @@ record-len-requires c κs = search needs
 returns-2 : tie.Need-returns-2
 unfolding recordRefusal recordWritten recordKept
 returns-2 c =
-    let if1 = c .before .before in
-    let e = le-leb _ _ (if1 .if1 .left) in
+    let counted = c .before .before in
+    let e = le-leb _ _ (counted .if1 .left) in
     let g = lt-leb _ _ (c .if2 .taken) in (rw (e, ← c .before .record-len .ensures .0, g), rw (e, ← c .before .record-len .ensures .0, g))
 
 put-record-requires : tie.Need-put-record-requires
@@ -28,13 +28,13 @@ same-length c = search needs
 returns-3 : tie.Need-returns-3
 unfolding recordRefusal recordWritten recordKept
 returns-3 c =
-    let put-record = c .before .before in
-    let if2 = put-record .before .before in
-    let record-len = if2 .before in
-    let if1 = record-len .before in
-    let e = le-leb _ _ (if1 .if1 .left) in
-    let g = le-leb _ _ (if2 .if2 .left) in
-    (rw (e, ← record-len .record-len .ensures .0, g), rw (e, ← record-len .record-len .ensures .0, g) (put-record .put-record .ensures .bytes))
+    let put = c .before .before in
+    let room = put .before .before in
+    let need = room .before in
+    let counted = need .before in
+    let e = le-leb _ _ (counted .if1 .left) in
+    let g = le-leb _ _ (room .if2 .left) in
+    (rw (e, ← need .record-len .ensures .0, g), rw (e, ← need .record-len .ensures .0, g) (put .put-record .ensures .bytes))
 
 pub write-record-spec : {M : Type 1} → statement M
 write-record-spec =

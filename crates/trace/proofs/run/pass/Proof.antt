@@ -1,5 +1,5 @@
--- `trace::run::pass` meets its contract. The invariant: what the messages left print, from the place in the buffer on, completes what the whole trace prints (RunLaws, `Going`), and the two buffers keep
--- their lengths; the measure: the bytes of the text that are left. Assumes nothing.
+-- `trace::run::pass` meets its contract. The invariant: what the messages left print, from the place in the buffer on, completes what the whole trace prints
+-- (RunLaws, `Going`), and the two buffers keep their lengths; the measure: the bytes of the text that are left. Assumes nothing.
 use Prim.Native.Nat.{_-_, _≤_}
 use mathlib.Core.Logic.{⊎-elim}
 use mathlib.Core.Path.{_≡_, sym, ap, _∙_}
@@ -14,7 +14,8 @@ use Rattle.monitor.proofs.ApplyLaws.{stored-yes, stored-no, withClients, withBu
 use Rattle.trace.specs.Groups.{topicIn, payloadIn}
 use Rattle.trace.specs.Trace.{planned}
 use Rattle.trace.proofs.BufferLaws.{topic-part, payload-part}
-use Rattle.trace.proofs.RunLaws.{Going, going-start, going-small, turn-room, going-turn, close-room, close-end, close-bytes, left-end, left-stop, plan-sent, sentAt, read-further, unloaded-text, unloaded-end}
+use Rattle.trace.proofs.RunLaws.{Going, going-start, going-small, turn-room, going-turn, close-room, close-end, close-bytes}
+use Rattle.trace.proofs.RunLaws.{left-end, left-stop, plan-sent, sentAt, read-further, unloaded-text, unloaded-end}
 use Rattle.trace.proofs.run.pass.Statement.{statement}
 use Rattle.trace.proofs.run.pass.Tie as tie
 
@@ -87,7 +88,7 @@ add-pass-closing-2 c =
     let loop = test .before in
     omega (arith, loop .loop .inv .0 .lines, loop .loop .inv .0 .short, test .loop-test .taken, read .read-message .ensures .1 .0 .line)
 
--- the places behind a turn's end: where all is stored, its plan, its gate, the message that was read, the loop's head; and the function's start
+-- the places behind a turn's end: its plan, its gate, the message that was read, the loop's head; and the function's start
 abbrev at-plan : tie.Joined5 Inv-loop μ-loop → tie.After-plan-from Inv-loop μ-loop
 at-plan c = c .before .before .before .before .before .before .before
 

@@ -24,11 +24,11 @@ same-length c = search needs
 
 returns-2 : tie.Need-returns-2
 returns-2 c =
-    let put-closing = c .before .before in
-    let if1 = put-closing .before .before in
-    let κs = if1 .before .before in
-    let e : κs .args .write ≡ true = not-false _ (if1 .if1 .left) in
-    (rw (wrote-room (put-closing .put-closing .ensures) (κs .pre .1 e)), rw (e) (put-closing .put-closing .ensures .bytes))
+    let put = c .before .before in
+    let writes = put .before .before in
+    let start = writes .before .before in
+    let e : start .args .write ≡ true = not-false _ (writes .if1 .left) in
+    (rw (wrote-room (put .put-closing .ensures) (start .pre .1 e)), rw (e) (put .put-closing .ensures .bytes))
 
 pub pass-closing-spec : {M : Type 1} → statement M
 pass-closing-spec =

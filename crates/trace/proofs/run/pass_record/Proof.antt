@@ -25,11 +25,11 @@ same-length c = search needs
 
 returns-2 : tie.Need-returns-2
 returns-2 c =
-    let put-record = c .before .before in
-    let if1 = put-record .before .before in
-    let κs = if1 .before .before in
-    let e : κs .args .write ≡ true = not-false _ (if1 .if1 .left) in
-    (wrote-room (put-record .put-record .ensures) (κs .pre .1 e), rw (e) (put-record .put-record .ensures .bytes))
+    let put = c .before .before in
+    let writes = put .before .before in
+    let start = writes .before .before in
+    let e : start .args .write ≡ true = not-false _ (writes .if1 .left) in
+    (wrote-room (put .put-record .ensures) (start .pre .1 e), rw (e) (put .put-record .ensures .bytes))
 
 pub pass-record-spec : {M : Type 1} → statement M
 pass-record-spec =

@@ -15,8 +15,8 @@ fits-requires c κs = search needs
 returns : tie.Need-returns
 unfolding traceEnd traceKept
 returns c =
-    let κs = c .before .before .before .before in
-    let e : leb (length (traceText (κs .args .text .now))) (length (κs .args .out .now)) ≡ false = sym (c .before .fits2 .ensures) ∙ not-true _ (c .if1 .taken) in
+    let start = c .before .before .before .before in
+    let e : leb (length (traceText (start .args .text .now))) (length (start .args .out .now)) ≡ false = sym (c .before .fits2 .ensures) ∙ not-true _ (c .if1 .taken) in
     (rw (e), rw (e))
 
 pass-requires : tie.Need-pass-requires
@@ -28,12 +28,12 @@ same-length c = search needs
 returns-2 : tie.Need-returns-2
 unfolding traceEnd traceKept
 returns-2 c =
-    let pass = c .before .before in
-    let if1 = pass .before .before in
-    let fits2 = if1 .before in
-    let κs = fits2 .before .before .before in
-    let e : leb (length (traceText (κs .args .text .now))) (length (κs .args .out .now)) ≡ true = sym (fits2 .fits2 .ensures) ∙ not-false _ (if1 .if1 .left) in
-    (rw (e) (pass .pass .ensures .0), rw (e) (pass .pass .ensures .1))
+    let passed = c .before .before in
+    let room = passed .before .before in
+    let fitted = room .before in
+    let start = fitted .before .before .before in
+    let e : leb (length (traceText (start .args .text .now))) (length (start .args .out .now)) ≡ true = sym (fitted .fits2 .ensures) ∙ not-false _ (room .if1 .left) in
+    (rw (e) (passed .pass .ensures .0), rw (e) (passed .pass .ensures .1))
 
 pub run-trace-spec : {M : Type 1} → statement M
 run-trace-spec = tie.close (tie.spec fits-requires returns pass-requires same-length returns-2)
