@@ -34,7 +34,8 @@ pub record Lies (s : List ℕ) (at : ℕ) (key : List ℕ) (f : Field) : Type 0 
   pub answer : Answer s f
   pub further : f .number ≡ 0 → at + length key + 1 ≤ f .next
 
-lies-refused : {s : List ℕ} {at : ℕ} {key : List ℕ} {f : Field} (number place : ℕ) → f ≡ refused number place → (number ≡ 0 → ⊥) → number ≤ 26 → place ≤ length s → Lies s at key f
+lies-refused : {s : List ℕ} {at : ℕ} {key : List ℕ} {f : Field} (number place : ℕ) → f ≡ refused number place → (number ≡ 0 → ⊥) → number ≤ 26 → place ≤ length s
+    → Lies s at key f
 lies-refused number place e z m h =
     record {
       answer = record { within = within-refused number place e h; known = omega (arith, ap (λ (f : Field). f .number) e) };
@@ -117,7 +118,8 @@ module _ (s : List ℕ) (at : ℕ) (key : List ℕ) where
       by-number Bad q e = absurd (omega (arith, e))
 
   -- hex that was read has as many bytes as it says, and no more than there is room for
-  pub hex-value : (room : ℕ) → hexField s at key room .number ≡ 0 → (length (unhex (valueOf s (hexField s at key room))) ≡ hexField s at key room .value) × (hexField s at key room .value ≤ room)
+  pub hex-value : (room : ℕ) → hexField s at key room .number ≡ 0
+      → (length (unhex (valueOf s (hexField s at key room))) ≡ hexField s at key room .value) × (hexField s at key room .value ≤ room)
   unfolding hexField
   hex-value room e =
       let l = valueOf s (lineAt s at key) in

@@ -103,7 +103,8 @@ module _ (s : List ℕ) where
   plan-sent at m e t p q = rw (t, p, e) at q
 
 -- a text after another
-put-then : (write : Bool) (d : List ℕ) (at : ℕ) (t u : List ℕ) → (write ≡ true → at + length t ≤ length d) → putIf write (putIf write d at t) (at + length t) u ≡ putIf write d at (t ++ u)
+put-then : (write : Bool) (d : List ℕ) (at : ℕ) (t u : List ℕ) → (write ≡ true → at + length t ≤ length d)
+    → putIf write (putIf write d at t) (at + length t) u ≡ putIf write d at (t ++ u)
 put-then true d at t u h =
     let w : Wrote d (sets d at t) at t (at + length t) = record { next = omega (arith, h refl); bytes = refl } in
     let v : Wrote (sets d at t) (sets (sets d at t) (at + length t) u) (at + length t) u (placeAfter (length (sets d at t)) (at + length t) (length u)) = record { next = refl; bytes = refl } in
@@ -224,7 +225,8 @@ module _ {s : List ℕ} {write : Bool} {d₀ d : List ℕ} {m : MqttMonitor} {n 
       pub close-room : write ≡ true → p + length (closingText number last (m .«total_inspected») (m .«total_alerts»)) ≤ length d
       close-room w = omega (arith, ok w, g .count, g .long, ap length close-text)
 
-      pub close-end : {r : TraceEnd} → r ≡ record { number = number; line = last; length = p + length (closingText number last (m .«total_inspected») (m .«total_alerts»)) } → r ≡ wholeEnd s
+      pub close-end : {r : TraceEnd}
+          → r ≡ record { number = number; line = last; length = p + length (closingText number last (m .«total_inspected») (m .«total_alerts»)) } → r ≡ wholeEnd s
       close-end e =
           let a : number ≡ messagesOf s .number = ap (λ (x : Messages). x .number) (sym q) ∙ g .number in
           let b : last ≡ messagesOf s .line = ap (λ (x : Messages). x .line) (sym q) ∙ g .last in

@@ -1,5 +1,5 @@
--- `trace::run::load` meets its contract. The invariant: what is left of the rules, loaded after the lines that were read into a fresh monitor with the rules of the table, is what the text loads; the
--- measure: the rules that are left. Assumes nothing.
+-- `trace::run::load` meets its contract. The invariant: what is left of the rules, loaded after the lines that were read into a fresh monitor with the rules of
+-- the table, is what the text loads; the measure: the rules that are left. Assumes nothing.
 use lib.Seq.{length-take-le}
 use mathlib.Core.Path.{_≡_, refl, sym}
 use Prim.Native.Nat.{_-_, _/_, _≤_, _<_}
@@ -14,7 +14,8 @@ use Rattle.trace.proofs.run.load.Statement.{statement}
 use Rattle.trace.proofs.run.load.Tie as tie
 
 abbrev Inv-loop : tie.InvT-loop
-Inv-loop text rules₀ rule-count₀ default-action at₀ pattern₀ line₀ left₀ rules rule-count at pattern line left = Loading text left line at default-action rules rule-count × (length pattern ≡ 128)
+Inv-loop text rules₀ rule-count₀ default-action at₀ pattern₀ line₀ left₀ rules rule-count at pattern line left =
+    Loading text left line at default-action rules rule-count × (length pattern ≡ 128)
 
 abbrev μ-loop : tie.MeasureT-loop
 μ-loop text rules₀ rule-count₀ default-action at₀ pattern₀ line₀ left₀ rules rule-count at pattern line left = left

@@ -20,7 +20,8 @@ use Rattle.trace.proofs.run.pass.Statement.{statement}
 use Rattle.trace.proofs.run.pass.Tie as tie
 
 abbrev Inv-loop : tie.InvT-loop
-Inv-loop text out₀ write m₀ at₀ line₀ topic₀ payload₀ n₀ p₀ out m at line topic payload n p = Going text write out₀ out m n at line p × (length topic ≡ 128) × (length payload ≡ 256)
+Inv-loop text out₀ write m₀ at₀ line₀ topic₀ payload₀ n₀ p₀ out m at line topic payload n p =
+    Going text write out₀ out m n at line p × (length topic ≡ 128) × (length payload ≡ 256)
 
 abbrev μ-loop : tie.MeasureT-loop
 μ-loop text out₀ write m₀ at₀ line₀ topic₀ payload₀ n₀ p₀ out m at line topic payload n p = length text - at
