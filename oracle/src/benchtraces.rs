@@ -1,8 +1,8 @@
 //! benchtraces: whole traces, text in and text out, by the archive and by the Rust driver over the original, for
 //! bin/measure.
 //!   benchtraces write FOLDER    writes the traces that we measure with, a file each
-//!   benchtraces count FILE..    each twice by either side, two rows counted by the message: with room for any answer,
-//!                               and with a buffer of exactly the answer's length
+//!   benchtraces count FILE..    each twice by either side, two rows counted by the message: with the room that is
+//!                               promised to take one pass, and with a buffer of exactly the answer's length
 //!   benchtraces stack FILE..    the deepest stack of either side
 
 mod hub;
@@ -79,7 +79,7 @@ fn count(file: &Path) {
     let parts = messages(&text).max(1);
     let mut answer = Vec::new();
     trace::run(&text, &mut answer);
-    for room in [ROOM, answer.len()] {
+    for room in [(12 * text.len()).max(109), answer.len()] {
         let hub = || {
             let mut out = vec![0; room];
             let length = hub::trace(black_box(&text), &mut out).length;

@@ -1,6 +1,6 @@
--- What a trace prints is at most 12 bytes for each byte of its text, or 109 (`trace-within`), so at most `enough` whatever the text is (`trace-enough`): a buffer of that size never
--- meets 28. A message that was read takes 44 bytes of the text or more and prints at most 528; the closing lines are at most 109, and an opening that was read takes 16.
--- Assumes nothing.
+-- What a trace prints is at most 12 bytes for each byte of its text, or 109 (`trace-within`), so at most `enough` whatever the text is (`trace-enough`): a
+-- buffer of that size never meets 28. A message that was read takes 44 bytes of the text or more and prints at most 528; the closing lines are at most 109, and
+-- an opening that was read takes 16. Assumes nothing.
 use Prim.Native.Nat.{ℕ, zero, suc, _+_, _-_, _*_, _^_, _≤_, _<_}
 use mathlib.Core.Path.{_≡_, refl}
 use mathlib.Core.Bool.{_&&_}

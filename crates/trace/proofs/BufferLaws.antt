@@ -83,7 +83,8 @@ module _ (s : List ℕ) (at : ℕ) {r : MessageLines} (d : List ℕ) {e : List �
       let long : length e ≡ 128 = rw k (topic-long s at d (rw q at z) ∙ l) in
       (rw (k, q) (topic-bytes s at d l (rw q at z)), omega (arith, w .topicLong), long)
 
-  pub payload-part : length d ≡ 256 → e ≡ payloadKept s at d → (take (r .msg .«payload_inspectable_len») e ≡ payloadIn s r) × (r .msg .«payload_inspectable_len» ≤ length e) × (length e ≡ 256)
+  pub payload-part : length d ≡ 256 → e ≡ payloadKept s at d
+      → (take (r .msg .«payload_inspectable_len») e ≡ payloadIn s r) × (r .msg .«payload_inspectable_len» ≤ length e) × (length e ≡ 256)
   payload-part l k =
       let w = message-within s at q in
       let long : length e ≡ 256 = rw k (payload-long s at d (rw q at z) ∙ l) in

@@ -1,7 +1,6 @@
--- What holds of every group of lines, on its definition. A group stopped at a refused line or was read whole: `opening-cases`, `rule-cases` and `message-cases` go by these cases.
--- So it lies in its text, its parts are as long as it says (`opening-within`, `rule-within`, `message-within`), and one that was read takes at least the bytes of its keys and
--- LFs: 16 for an opening, 44 for a message (`opening-further`, `rule-further`, `message-further`).
--- Assumes nothing.
+-- What holds of every group of lines, on its definition. A group stopped at a refused line or was read whole: `opening-cases`, `rule-cases` and `message-cases`
+-- go by these cases. So it lies in its text, its parts are as long as it says (`opening-within`, `rule-within`, `message-within`), and one that was read takes
+-- at least the bytes of its keys and LFs: 16 for an opening, 44 for a message (`opening-further`, `rule-further`, `message-further`). Assumes nothing.
 use Prim.Native.Nat.{ℕ, _+_, _≤_}
 use mathlib.Core.Path.{_≡_}
 use mathlib.Core.Bool.{cond}
@@ -100,7 +99,8 @@ module _ (s : List ℕ) (at : ℕ) where
       (λ a.
       either P policyOf
       (λ q.
-      either P rateOf (λ r. rw (eq-eqb _ _ r) at (read (record { pattern = p; action = a; policy = q; rate = r }))) (stop rateOf 3 (number-lies s (policyOf .next) (bytes "rate=") 0 65535 .answer) (omega arith)))
+      either P rateOf (λ r. rw (eq-eqb _ _ r) at (read (record { pattern = p; action = a; policy = q; rate = r })))
+      (stop rateOf 3 (number-lies s (policyOf .next) (bytes "rate=") 0 65535 .answer) (omega arith)))
       (stop policyOf 2 (word-lies s (actionOf .next) (bytes "qos=") (bytes "any|min0|min1|min2|only0|only1|only2") .answer) (omega arith)))
       (stop actionOf 1 (word-lies s (patternOf .next) (bytes "action=") (bytes "allow|block") .answer) (omega arith)))
       (stop patternOf 0 (hex-lies s at (bytes "pattern=") 128 .answer) (omega arith))

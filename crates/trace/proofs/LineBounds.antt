@@ -1,5 +1,5 @@
--- What holds of every line that is read at a place, on the definitions of `lines`: it lies in its text, and 26 is its highest number; one that was read ends further on by its key and its LF at least, and its value is in range.
--- Assumes nothing.
+-- What holds of every line that is read at a place, on the definitions of `lines`: it lies in its text, and 26 is its highest number; one that was read ends
+-- further on by its key and its LF at least, and its value is in range. Assumes nothing.
 use Prim.Native.Nat.{ℕ, _+_, _%_, _≤_}
 use mathlib.Core.Path.{_≡_, refl, sym, ap, _∙_}
 use mathlib.Core.Bool.{_&&_}
@@ -34,7 +34,8 @@ pub record Lies (s : List ℕ) (at : ℕ) (key : List ℕ) (f : Field) : Type 0 
   pub answer : Answer s f
   pub further : f .number ≡ 0 → at + length key + 1 ≤ f .next
 
-lies-refused : {s : List ℕ} {at : ℕ} {key : List ℕ} {f : Field} (number place : ℕ) → f ≡ refused number place → (number ≡ 0 → ⊥) → number ≤ 26 → place ≤ length s → Lies s at key f
+lies-refused : {s : List ℕ} {at : ℕ} {key : List ℕ} {f : Field} (number place : ℕ) → f ≡ refused number place → (number ≡ 0 → ⊥) → number ≤ 26 → place ≤ length s
+    → Lies s at key f
 lies-refused number place e z m h =
     record {
       answer = record { within = within-refused number place e h; known = omega (arith, ap (λ (f : Field). f .number) e) };
@@ -111,12 +112,14 @@ module _ (s : List ℕ) (at : ℕ) (key : List ℕ) where
       (λ t. rw t (by-number (decimalOf low high (valueOf s (lineAt s at key))) refl (rw t at e)))
       (λ t. absurd (eqb-false _ _ t (rw t at e)))
     where
-      by-number : (n : Number) → decimalOf low high (valueOf s (lineAt s at key)) ≡ n → answered (lineAt s at key) (placeIn s at) 22 n .number ≡ 0 → answered (lineAt s at key) (placeIn s at) 22 n .value ≤ high
+      by-number : (n : Number) → decimalOf low high (valueOf s (lineAt s at key)) ≡ n → answered (lineAt s at key) (placeIn s at) 22 n .number ≡ 0
+          → answered (lineAt s at key) (placeIn s at) 22 n .value ≤ high
       by-number (Value v) q e = decimal-range low high _ v q .1
       by-number Bad q e = absurd (omega (arith, e))
 
   -- hex that was read has as many bytes as it says, and no more than there is room for
-  pub hex-value : (room : ℕ) → hexField s at key room .number ≡ 0 → (length (unhex (valueOf s (hexField s at key room))) ≡ hexField s at key room .value) × (hexField s at key room .value ≤ room)
+  pub hex-value : (room : ℕ) → hexField s at key room .number ≡ 0
+      → (length (unhex (valueOf s (hexField s at key room))) ≡ hexField s at key room .value) × (hexField s at key room .value ≤ room)
   unfolding hexField
   hex-value room e =
       let l = valueOf s (lineAt s at key) in

@@ -1,6 +1,7 @@
--- How rules are loaded one after the other: what is left of them to load (`Loading`) begins after the opening (`load-start`), goes on with a rule that was added (`load-turn`), and stops at a rule whose
--- lines are refused (`load-stop`) or that is not taken (`load-refused`). The monitor is at each time a fresh one that has the rules of the table, so the table says all (`loaded-monitor`), and it is
--- sound, so number 10 does not come up and `add_rule` does what its plan says. Assumes nothing.
+-- How rules are loaded one after the other: what is left of them to load (`Loading`) begins after the opening (`load-start`), goes on with a rule that was
+-- added (`load-turn`), and stops at a rule whose lines are refused (`load-stop`) or that is not taken (`load-refused`). The monitor is at each time a fresh one
+-- that has the rules of the table, so the table says all (`loaded-monitor`), and it is sound, so number 10 does not come up and `add_rule` does what its plan
+-- says. Assumes nothing.
 use Prim.Native.Nat.{ℕ, zero, suc, _+_, _-_, _*_, _≤_, _<_}
 use mathlib.Core.Path.{_≡_, refl, sym, ap, _∙_}
 use mathlib.Core.List.{List}
@@ -69,7 +70,8 @@ abbrev table : ℕ → ℕ → ℕ → TopicAction → List TopicRule → ℕ �
 table number line next default rules n =
     record { number = number; line = line; next = next; «default_action» = default; «rule_count» = n; rules = rules }
 
-says : {l : Loaded} {number line next : ℕ} (default : TopicAction) {rules : List TopicRule} {n : ℕ} → notLoaded number line next (holding default rules n) ≡ l → table number line next default rules n ≡ rulesOf l
+says : {l : Loaded} {number line next : ℕ} (default : TopicAction) {rules : List TopicRule} {n : ℕ} → notLoaded number line next (holding default rules n) ≡ l
+    → table number line next default rules n ≡ rulesOf l
 unfolding fresh
 says default e = ap rulesOf e
 
@@ -79,7 +81,8 @@ unfolding loaded
 load-long s h g = says {l = loaded s} Allow (rw (lt-leb _ _ h, g, no-rules Allow))
 
 -- the opening is refused
-pub load-none : (s : List ℕ) {o : OpeningLines} {rules : List TopicRule} → length s ≤ 65536 → o ≡ openingOf s → (o .number ≡ 0 → ⊥) → rules ≡ replicate 32 emptyRule → table (o .number) (1 + o .line) (o .next) (o .«default_action») rules 0 ≡ rulesOf (loaded s)
+pub load-none : (s : List ℕ) {o : OpeningLines} {rules : List TopicRule} → length s ≤ 65536 → o ≡ openingOf s → (o .number ≡ 0 → ⊥) → rules ≡ replicate 32 emptyRule
+    → table (o .number) (1 + o .line) (o .next) (o .«default_action») rules 0 ≡ rulesOf (loaded s)
 unfolding loaded loadedFrom
 load-none s {o} h e z g = says {l = loaded s} (o .«default_action») (rw (le-leb _ _ h, ← e, ne-eqb _ _ z, g, no-rules (o .«default_action»)))
 
@@ -90,7 +93,8 @@ pub record Loading (s : List ℕ) (left line at : ℕ) (default : TopicAction) (
   pub rest : rulesInto left s (notLoaded 0 line at (holding default rules n)) ≡ loaded s
 
 -- after the opening
-pub load-start : (s : List ℕ) {o : OpeningLines} {rules : List TopicRule} → length s ≤ 65536 → o ≡ openingOf s → o .number ≡ 0 → rules ≡ replicate 32 emptyRule → Loading s (o .rules) 2 (o .next) (o .«default_action») rules 0
+pub load-start : (s : List ℕ) {o : OpeningLines} {rules : List TopicRule} → length s ≤ 65536 → o ≡ openingOf s → o .number ≡ 0 → rules ≡ replicate 32 emptyRule
+    → Loading s (o .rules) 2 (o .next) (o .«default_action») rules 0
 unfolding loaded loadedFrom
 load-start s {o} h e z g =
     record {
@@ -99,7 +103,8 @@ load-start s {o} h e z g =
       rest = rw (le-leb _ _ h, ← e, eq-eqb _ _ z, g, no-rules (o .«default_action»));
     }
 
-module _ {s : List ℕ} {left line at : ℕ} {default : TopicAction} {rules : List TopicRule} {n : ℕ} (l : Loading s left line at default rules n) (more : 0 < left) {r : RuleLines} (e : r ≡ ruleAt s at) where
+module _ {s : List ℕ} {left line at : ℕ} {default : TopicAction} {rules : List TopicRule} {n : ℕ} (l : Loading s left line at default rules n)
+    (more : 0 < left) {r : RuleLines} (e : r ≡ ruleAt s at) where
   turn : rulesInto (left - 1) s (ruleInto (holding default rules n) s line r) ≡ loaded s
   turn = rw e (sym (rules-turn left s (notLoaded 0 line at (holding default rules n)) more refl) ∙ l .rest)
 
@@ -134,6 +139,7 @@ module _ {s : List ℕ} {left line at : ℕ} {default : TopicAction} {rules : Li
         }
 
 -- all rules are loaded
-pub load-end : {s : List ℕ} {left line at : ℕ} {default : TopicAction} {rules : List TopicRule} {n : ℕ} → Loading s left line at default rules n → left ≡ 0 → table 0 line at default rules n ≡ rulesOf (loaded s)
+pub load-end : {s : List ℕ} {left line at : ℕ} {default : TopicAction} {rules : List TopicRule} {n : ℕ} → Loading s left line at default rules n → left ≡ 0
+    → table 0 line at default rules n ≡ rulesOf (loaded s)
 unfolding rulesInto
 load-end {default} l z = says default (rw z at (l .rest))

@@ -66,7 +66,8 @@ pub record Typed (a : SecurityAlert) : Type 0 where
   pub hash32 : length (a .«payload_hash») ≡ 32
 
 module _ (a : SecurityAlert) where
-  alert-length : length (alertText a) ≡ length (numberLine (bytes "id=") (a .id)) + length (numberLine (bytes "kind=") (a .«source_id»)) + length (numberLine (bytes "severity=") (severityNumber (a .severity))) + length (hexLine (bytes "hash=") (a .«payload_hash»))
+  alert-length : length (alertText a) ≡ length (numberLine (bytes "id=") (a .id)) + length (numberLine (bytes "kind=") (a .«source_id»))
+      + length (numberLine (bytes "severity=") (severityNumber (a .severity))) + length (hexLine (bytes "hash=") (a .«payload_hash»))
   unfolding alertText
   alert-length = simp length-append
 
@@ -77,14 +78,17 @@ module _ (a : SecurityAlert) where
       let r = number-short (bytes "severity=") (severityNumber (a .severity)) 1 (decimal-short 0 _ (digit (a .severity))) in
       omega (arith, alert-length, hex-line-length (bytes "hash=") (a .«payload_hash»), t .hash32)
 
-  pub alert-sum : {p q n r s : ℕ} → Typed a → p ≡ capped (length (numberLine (bytes "id=") (a .id))) → q ≡ capped (length (numberLine (bytes "kind=") (a .«source_id»))) → n ≡ severityNumber (a .severity) → r ≡ capped (length (numberLine (bytes "severity=") n)) → s ≡ capped (length (hexLine (bytes "hash=") (a .«payload_hash»))) → (p + q + r + s ≡ length (alertText a)) × (p + q + r + s ≤ 121)
+  pub alert-sum : {p q n r s : ℕ} → Typed a → p ≡ capped (length (numberLine (bytes "id=") (a .id)))
+      → q ≡ capped (length (numberLine (bytes "kind=") (a .«source_id»))) → n ≡ severityNumber (a .severity) → r ≡ capped (length (numberLine (bytes "severity=") n))
+      → s ≡ capped (length (hexLine (bytes "hash=") (a .«payload_hash»))) → (p + q + r + s ≡ length (alertText a)) × (p + q + r + s ≤ 121)
   alert-sum {r = r} t ep eq en er es =
       let h = alert-short t in
       let e : r ≡ capped (length (numberLine (bytes "severity=") (severityNumber (a .severity)))) = rw en at er in
       (omega (arith, alert-length), omega (arith, alert-length))
 
 module _ (n : ℕ) (r : MqttInspectResult) where
-  record-length : length (recordText n r) ≡ length (numberLine (bytes "n=") n) + length (flagLine (bytes "allowed=") (r .allowed)) + length (numberLine (bytes "alerts=") (r .«alert_count»)) + length (alertsText (take (r .«alert_count») (r .alerts)))
+  record-length : length (recordText n r) ≡ length (numberLine (bytes "n=") n) + length (flagLine (bytes "allowed=") (r .allowed))
+      + length (numberLine (bytes "alerts=") (r .«alert_count»)) + length (alertsText (take (r .«alert_count») (r .alerts)))
   unfolding recordText
   record-length = simp length-append
 
@@ -94,14 +98,17 @@ module _ (n : ℕ) (r : MqttInspectResult) where
       let q = number-short (bytes "alerts=") (r .«alert_count») 3 (decimal-short 2 _ (omega (arith, g))) in
       omega (arith, record-length, flag-line-length (bytes "allowed=") (r .allowed))
 
-  pub record-sum : {p q k l : ℕ} → n < 2 ^ 64 → r .«alert_count» < 2 ^ 8 → p ≡ capped (length (numberLine (bytes "n=") n)) → ((on : Bool) → q ≡ capped (length (flagLine (bytes "allowed=") on))) → k ≡ capped (length (numberLine (bytes "alerts=") (r .«alert_count»))) → (l ≡ length (alertsText (take (r .«alert_count») (r .alerts)))) × (l ≤ 484) → (p + q + k + l ≡ length (recordText n r)) × (p + q + k + l ≤ 528)
+  pub record-sum : {p q k l : ℕ} → n < 2 ^ 64 → r .«alert_count» < 2 ^ 8 → p ≡ capped (length (numberLine (bytes "n=") n))
+      → ((on : Bool) → q ≡ capped (length (flagLine (bytes "allowed=") on))) → k ≡ capped (length (numberLine (bytes "alerts=") (r .«alert_count»)))
+      → (l ≡ length (alertsText (take (r .«alert_count») (r .alerts)))) × (l ≤ 484) → (p + q + k + l ≡ length (recordText n r)) × (p + q + k + l ≤ 528)
   record-sum h g ep eq ek el =
       let s = record-short h g (omega (arith, el)) in
       let f = eq (r .allowed) in
       (omega (arith, record-length), omega (arith, record-length))
 
 module _ (number line inspected total : ℕ) where
-  closing-length : length (closingText number line inspected total) ≡ length (numberLine (bytes "end=") number) + length (numberLine (bytes "line=") line) + length (numberLine (bytes "inspected=") inspected) + length (numberLine (bytes "total=") total)
+  closing-length : length (closingText number line inspected total) ≡ length (numberLine (bytes "end=") number) + length (numberLine (bytes "line=") line)
+      + length (numberLine (bytes "inspected=") inspected) + length (numberLine (bytes "total=") total)
   unfolding closingText
   closing-length = simp length-append
 
@@ -114,5 +121,7 @@ module _ (number line inspected total : ℕ) where
         let s = number-short (bytes "total=") total 20 (decimal-20 total d) in
         omega (arith, closing-length)
 
-    pub closing-sum : {p q r s : ℕ} → p ≡ capped (length (numberLine (bytes "end=") number)) → q ≡ capped (length (numberLine (bytes "line=") line)) → r ≡ capped (length (numberLine (bytes "inspected=") inspected)) → s ≡ capped (length (numberLine (bytes "total=") total)) → (p + q + r + s ≡ length (closingText number line inspected total)) × (p + q + r + s ≤ 109)
+    pub closing-sum : {p q r s : ℕ} → p ≡ capped (length (numberLine (bytes "end=") number)) → q ≡ capped (length (numberLine (bytes "line=") line))
+        → r ≡ capped (length (numberLine (bytes "inspected=") inspected)) → s ≡ capped (length (numberLine (bytes "total=") total))
+        → (p + q + r + s ≡ length (closingText number line inspected total)) × (p + q + r + s ≤ 109)
     closing-sum ep eq er es = (omega (arith, closing-length, closing-short), omega (arith, closing-length, closing-short))

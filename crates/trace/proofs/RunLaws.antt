@@ -76,7 +76,8 @@ module _ (s : List ℕ) where
       more at line ∙ turn (length s) at line h z
       ∙ ap (sentFirst (sentAt at)) (fuel (length s) (length s + 1) s (messageAt s at .next) (line + 7) (omega arith) (omega arith))
 
-  text-turn : (m : MqttMonitor) (n at line : ℕ) → at < length s → messageAt s at .number ≡ 0 → leftText m n at line ≡ recordText n (resultOf (planned m (sentAt at))) ++ leftText (applied m (planned m (sentAt at))) (n + 1) (messageAt s at .next) (line + 7)
+  text-turn : (m : MqttMonitor) (n at line : ℕ) → at < length s → messageAt s at .number ≡ 0
+      → leftText m n at line ≡ recordText n (resultOf (planned m (sentAt at))) ++ leftText (applied m (planned m (sentAt at))) (n + 1) (messageAt s at .next) (line + 7)
   unfolding textFrom
   text-turn m n at line h z = rw (left-turn at line h z)
 
@@ -97,11 +98,13 @@ module _ (s : List ℕ) where
   left-stop {at} line h e z = more at line ∙ stops (length s) at line h e z
 
   -- what a message that was read does, by what its reader and the plan handed back
-  pub plan-sent : (at : ℕ) (m : MqttMonitor) {r : MessageLines} {topic payload : List ℕ} {plan : Plan} → r ≡ messageAt s at → topic ≡ topicIn s r → payload ≡ payloadIn s r → plan ≡ planOf portMatches m (r .msg) topic payload → plan ≡ planned m (sentAt at)
+  pub plan-sent : (at : ℕ) (m : MqttMonitor) {r : MessageLines} {topic payload : List ℕ} {plan : Plan} → r ≡ messageAt s at → topic ≡ topicIn s r
+      → payload ≡ payloadIn s r → plan ≡ planOf portMatches m (r .msg) topic payload → plan ≡ planned m (sentAt at)
   plan-sent at m e t p q = rw (t, p, e) at q
 
 -- a text after another
-put-then : (write : Bool) (d : List ℕ) (at : ℕ) (t u : List ℕ) → (write ≡ true → at + length t ≤ length d) → putIf write (putIf write d at t) (at + length t) u ≡ putIf write d at (t ++ u)
+put-then : (write : Bool) (d : List ℕ) (at : ℕ) (t u : List ℕ) → (write ≡ true → at + length t ≤ length d)
+    → putIf write (putIf write d at t) (at + length t) u ≡ putIf write d at (t ++ u)
 put-then true d at t u h =
     let w : Wrote d (sets d at t) at t (at + length t) = record { next = omega (arith, h refl); bytes = refl } in
     let v : Wrote (sets d at t) (sets (sets d at t) (at + length t) u) (at + length t) u (placeAfter (length (sets d at t)) (at + length t) (length u)) = record { next = refl; bytes = refl } in
@@ -172,7 +175,9 @@ module _ (s : List ℕ) {l : LoadedRules} (e : l ≡ rulesOf (loaded s)) {m : Mq
     unfolding messagesOf
     unloaded-messages = rw (number-is, ne-eqb _ _ z, line-is)
 
-    pub unloaded-end : {r : TraceEnd} → r ≡ record { number = l .number; line = l .line; length = 0 + length (closingText (l .number) (l .line) (m .«total_inspected») (m .«total_alerts»)) } → r ≡ wholeEnd s
+    pub unloaded-end : {r : TraceEnd}
+        → r ≡ record { number = l .number; line = l .line; length = 0 + length (closingText (l .number) (l .line) (m .«total_inspected») (m .«total_alerts»)) }
+        → r ≡ wholeEnd s
     unloaded-end q =
         let c : 0 + length (traceText s) ≡ length (traceText s) = omega arith in
         q ∙ rw (← unloaded-text, c, unloaded-messages)
@@ -193,7 +198,8 @@ module _ {s : List ℕ} {write : Bool} {d₀ d : List ℕ} {m : MqttMonitor} {n 
       turn-room w = omega (arith, ok w, g .count, g .long, simp length-append at (ap length here))
 
       -- the pass goes on after it
-      pub going-turn : {m′ : MqttMonitor} {e′ : List ℕ} {p′ : ℕ} → m′ ≡ applied m plan → p′ ≡ p + length (recordText n (resultOf plan)) → e′ ≡ putIf write d p (recordText n (resultOf plan)) → Going s write d₀ e′ m′ (n + 1) (r .next) (line + 7) p′
+      pub going-turn : {m′ : MqttMonitor} {e′ : List ℕ} {p′ : ℕ} → m′ ≡ applied m plan → p′ ≡ p + length (recordText n (resultOf plan))
+          → e′ ≡ putIf write d p (recordText n (resultOf plan)) → Going s write d₀ e′ m′ (n + 1) (r .next) (line + 7) p′
       going-turn me pe ee =
           let f = message-further s at (rw e at z) in
           let k = left-turn s at line h (rw e at z) in
@@ -219,7 +225,8 @@ module _ {s : List ℕ} {write : Bool} {d₀ d : List ℕ} {m : MqttMonitor} {n 
       pub close-room : write ≡ true → p + length (closingText number last (m .«total_inspected») (m .«total_alerts»)) ≤ length d
       close-room w = omega (arith, ok w, g .count, g .long, ap length close-text)
 
-      pub close-end : {r : TraceEnd} → r ≡ record { number = number; line = last; length = p + length (closingText number last (m .«total_inspected») (m .«total_alerts»)) } → r ≡ wholeEnd s
+      pub close-end : {r : TraceEnd}
+          → r ≡ record { number = number; line = last; length = p + length (closingText number last (m .«total_inspected») (m .«total_alerts»)) } → r ≡ wholeEnd s
       close-end e =
           let a : number ≡ messagesOf s .number = ap (λ (x : Messages). x .number) (sym q) ∙ g .number in
           let b : last ≡ messagesOf s .line = ap (λ (x : Messages). x .line) (sym q) ∙ g .last in

@@ -21,7 +21,12 @@ opening-stopped-requires c κs = search needs
 
 returns : tie.Need-returns
 unfolding openingOf opening1
-returns c = let e : c .opening-stopped .result ≡ openingOf (c .before .before .before .before .before .before .before .args .text .now) = rw (← c .before .before .before .word-field .ensures .0, ne-eqb _ _ (c .before .if1 .taken)) (c .opening-stopped .ensures) in (e, opening-within _ e)
+returns c =
+    let default = c .before .before .before in
+    let start = default .before .before .before .before in
+    let e : c .opening-stopped .result ≡ openingOf (start .args .text .now) =
+    rw (← default .word-field .ensures .0, ne-eqb _ _ (c .before .if1 .taken)) (c .opening-stopped .ensures) in
+    (e, opening-within _ e)
 
 slice-aggregate-number-field : tie.Need-slice-aggregate-number-field
 slice-aggregate-number-field c = search needs
@@ -34,14 +39,37 @@ opening-stopped-requires-2 c κs = search needs
 
 returns-2 : tie.Need-returns-2
 unfolding openingOf opening1 opening2
-returns-2 c = let e : c .opening-stopped2 .result ≡ openingOf (c .before .before .before .before .before .before .before .before .before .before .before .args .text .now) = rw (← c .before .before .before .before .before .before .before .word-field .ensures .0, eq-eqb _ _ (c .before .before .before .before .before .if1 .left), ← c .before .before .before .number-field .ensures .0, ne-eqb _ _ (c .before .if2 .taken)) (c .opening-stopped2 .ensures) in (e, opening-within _ e)
+returns-2 c =
+    let rules = c .before .before .before in
+    let after-default = rules .before .before in
+    let default = after-default .before .before in
+    let start = default .before .before .before .before in
+    let e : c .opening-stopped2 .result ≡ openingOf (start .args .text .now) =
+    rw (← default .word-field .ensures .0, eq-eqb _ _ (after-default .if1 .left), ← rules .number-field .ensures .0, ne-eqb _ _ (c .before .if2 .taken))
+    (c .opening-stopped2 .ensures) in
+    (e, opening-within _ e)
 
 action-at-requires : tie.Need-action-at-requires
 action-at-requires c κs = search needs
 
 returns-3 : tie.Need-returns-3
 unfolding openingOf opening1 opening2
-returns-3 c = let e : record { number = 0; line = 1; next = c .before .before .before .number-field .result .next; «default_action» = c .action-at .result; rules = c .before .before .before .number-field .result .value } ≡ openingOf (c .before .before .before .before .before .before .before .before .before .before .before .args .text .now) = rw (← c .before .before .before .before .before .before .before .word-field .ensures .0, eq-eqb _ _ (c .before .before .before .before .before .if1 .left), ← c .before .before .before .number-field .ensures .0, eq-eqb _ _ (c .before .if2 .left), c .action-at .ensures) in (e, opening-within _ e)
+returns-3 c =
+    let rules = c .before .before .before in
+    let after-default = rules .before .before in
+    let default = after-default .before .before in
+    let start = default .before .before .before .before in
+    let e :
+    record { number = 0; line = 1; next = rules .number-field .result .next; «default_action» = c .action-at .result; rules = rules .number-field .result .value }
+    ≡ openingOf (start .args .text .now) =
+    rw (
+      ← default .word-field .ensures .0,
+      eq-eqb _ _ (after-default .if1 .left),
+      ← rules .number-field .ensures .0,
+      eq-eqb _ _ (c .before .if2 .left),
+      c .action-at .ensures,
+    ) in
+    (e, opening-within _ e)
 
 pub read-opening-spec : {M : Type 1} → statement M
 read-opening-spec =

@@ -21,12 +21,21 @@ hex-field-requires c κs = search needs
 rule-stopped-requires : tie.Need-rule-stopped-requires
 rule-stopped-requires c κs = search needs
 
-hex-is : (c : tie.After-hex-field) → c .hex-field .result ≡ hexField (c .before .before .before .before .args .text .now) (c .before .before .before .before .args .at) (bytes "pattern=") 128
-hex-is c = let l : length (c .before .before .before .before .args .pattern .now) ≡ 128 = search needs in rw l at (c .hex-field .ensures .0)
+hex-is : (c : tie.After-hex-field)
+    → let start = c .before .before .before .before in
+    c .hex-field .result ≡ hexField (start .args .text .now) (start .args .at) (bytes "pattern=") 128
+hex-is c =
+    let start = c .before .before .before .before in
+    let l : length (start .args .pattern .now) ≡ 128 = search needs in rw l at (c .hex-field .ensures .0)
 
 returns : tie.Need-returns
 unfolding ruleAt rule1
-returns c = let e : c .rule-stopped .result ≡ ruleAt (c .before .before .before .before .before .before .before .args .text .now) (c .before .before .before .before .before .before .before .args .at) = rw (← hex-is (c .before .before .before), ne-eqb _ _ (c .before .if1 .taken)) (c .rule-stopped .ensures) in (e, (rule-within _ _ e, c .before .before .before .hex-field .ensures .1 .1))
+returns c =
+    let pattern = c .before .before .before in
+    let start = pattern .before .before .before .before in
+    let e : c .rule-stopped .result ≡ ruleAt (start .args .text .now) (start .args .at) =
+    rw (← hex-is pattern, ne-eqb _ _ (c .before .if1 .taken)) (c .rule-stopped .ensures) in
+    (e, (rule-within _ _ e, pattern .hex-field .ensures .1 .1))
 
 slice-aggregate-word-field : tie.Need-slice-aggregate-word-field
 slice-aggregate-word-field c = search needs
@@ -42,7 +51,14 @@ rule-stopped-requires-2 c κs = search needs
 
 returns-2 : tie.Need-returns-2
 unfolding ruleAt rule1 rule2
-returns-2 c = let e : c .rule-stopped2 .result ≡ ruleAt (c .before .before .before .before .before .before .before .before .before .before .before .before .args .text .now) (c .before .before .before .before .before .before .before .before .before .before .before .before .args .at) = rw (← hex-is (c .before .before .before .before .before .before .before .before), eq-eqb _ _ (c .before .before .before .before .before .before .if1 .left), ← c .before .before .before .word-field .ensures .0, ne-eqb _ _ (c .before .if2 .taken)) (c .rule-stopped2 .ensures) in (e, (rule-within _ _ e, c .before .before .before .before .before .before .before .before .hex-field .ensures .1 .1))
+returns-2 c =
+    let action = c .before .before .before in
+    let after-pattern = action .before .before .before in
+    let pattern = after-pattern .before .before in
+    let start = pattern .before .before .before .before in
+    let e : c .rule-stopped2 .result ≡ ruleAt (start .args .text .now) (start .args .at) =
+    rw (← hex-is pattern, eq-eqb _ _ (after-pattern .if1 .left), ← action .word-field .ensures .0, ne-eqb _ _ (c .before .if2 .taken)) (c .rule-stopped2 .ensures) in
+    (e, (rule-within _ _ e, pattern .hex-field .ensures .1 .1))
 
 slice-aggregate-word-field-3 : tie.Need-slice-aggregate-word-field-3
 slice-aggregate-word-field-3 c = search needs
@@ -58,7 +74,24 @@ rule-stopped-requires-3 c κs = search needs
 
 returns-3 : tie.Need-returns-3
 unfolding ruleAt rule1 rule2 rule3
-returns-3 c = let e : c .rule-stopped3 .result ≡ ruleAt (c .before .before .before .before .before .before .before .before .before .before .before .before .before .before .before .before .before .args .text .now) (c .before .before .before .before .before .before .before .before .before .before .before .before .before .before .before .before .before .args .at) = rw (← hex-is (c .before .before .before .before .before .before .before .before .before .before .before .before .before), eq-eqb _ _ (c .before .before .before .before .before .before .before .before .before .before .before .if1 .left), ← c .before .before .before .before .before .before .before .before .word-field .ensures .0, eq-eqb _ _ (c .before .before .before .before .before .before .if2 .left), ← c .before .before .before .word-field2 .ensures .0, ne-eqb _ _ (c .before .if3 .taken)) (c .rule-stopped3 .ensures) in (e, (rule-within _ _ e, c .before .before .before .before .before .before .before .before .before .before .before .before .before .hex-field .ensures .1 .1))
+returns-3 c =
+    let qos = c .before .before .before in
+    let after-action = qos .before .before .before in
+    let action = after-action .before .before in
+    let after-pattern = action .before .before .before in
+    let pattern = after-pattern .before .before in
+    let start = pattern .before .before .before .before in
+    let e : c .rule-stopped3 .result ≡ ruleAt (start .args .text .now) (start .args .at) =
+    rw (
+      ← hex-is pattern,
+      eq-eqb _ _ (after-pattern .if1 .left),
+      ← action .word-field .ensures .0,
+      eq-eqb _ _ (after-action .if2 .left),
+      ← qos .word-field2 .ensures .0,
+      ne-eqb _ _ (c .before .if3 .taken),
+    )
+    (c .rule-stopped3 .ensures) in
+    (e, (rule-within _ _ e, pattern .hex-field .ensures .1 .1))
 
 slice-aggregate-number-field : tie.Need-slice-aggregate-number-field
 slice-aggregate-number-field c = search needs
@@ -71,7 +104,28 @@ rule-stopped-requires-4 c κs = search needs
 
 returns-4 : tie.Need-returns-4
 unfolding ruleAt rule1 rule2 rule3 rule4
-returns-4 c = let e : c .rule-stopped4 .result ≡ ruleAt (c .before .before .before .before .before .before .before .before .before .before .before .before .before .before .before .before .before .before .before .before .before .args .text .now) (c .before .before .before .before .before .before .before .before .before .before .before .before .before .before .before .before .before .before .before .before .before .args .at) = rw (← hex-is (c .before .before .before .before .before .before .before .before .before .before .before .before .before .before .before .before .before), eq-eqb _ _ (c .before .before .before .before .before .before .before .before .before .before .before .before .before .before .before .if1 .left), ← c .before .before .before .before .before .before .before .before .before .before .before .before .word-field .ensures .0, eq-eqb _ _ (c .before .before .before .before .before .before .before .before .before .before .if2 .left), ← c .before .before .before .before .before .before .before .word-field2 .ensures .0, eq-eqb _ _ (c .before .before .before .before .before .if3 .left), ← c .before .before .before .number-field .ensures .0, ne-eqb _ _ (c .before .if4 .taken)) (c .rule-stopped4 .ensures) in (e, (rule-within _ _ e, c .before .before .before .before .before .before .before .before .before .before .before .before .before .before .before .before .before .hex-field .ensures .1 .1))
+returns-4 c =
+    let rate = c .before .before .before in
+    let after-qos = rate .before .before in
+    let qos = after-qos .before .before in
+    let after-action = qos .before .before .before in
+    let action = after-action .before .before in
+    let after-pattern = action .before .before .before in
+    let pattern = after-pattern .before .before in
+    let start = pattern .before .before .before .before in
+    let e : c .rule-stopped4 .result ≡ ruleAt (start .args .text .now) (start .args .at) =
+    rw (
+      ← hex-is pattern,
+      eq-eqb _ _ (after-pattern .if1 .left),
+      ← action .word-field .ensures .0,
+      eq-eqb _ _ (after-action .if2 .left),
+      ← qos .word-field2 .ensures .0,
+      eq-eqb _ _ (after-qos .if3 .left),
+      ← rate .number-field .ensures .0,
+      ne-eqb _ _ (c .before .if4 .taken),
+    )
+    (c .rule-stopped4 .ensures) in
+    (e, (rule-within _ _ e, pattern .hex-field .ensures .1 .1))
 
 action-at-requires : tie.Need-action-at-requires
 action-at-requires c κs = search needs
@@ -80,11 +134,49 @@ policy-at-requires : tie.Need-policy-at-requires
 policy-at-requires c κs = search needs
 
 cast-t31 : tie.Need-cast-t31
-cast-t31 c = let h = number-fits _ _ _ 0 65535 (c .before .before .before .before .before .number-field .ensures .0) (c .before .before .before .if4 .left) in omega arith
+cast-t31 c =
+    let after-rate = c .before .before .before in
+    let rate = after-rate .before .before in
+    let h = number-fits _ _ _ 0 65535 (rate .number-field .ensures .0) (after-rate .if4 .left) in omega arith
 
 returns-5 : tie.Need-returns-5
 unfolding ruleAt rule1 rule2 rule3 rule4
-returns-5 c = let e : record { number = 0; line = 3; next = c .before .before .before .before .before .number-field .result .next; «pattern_from» = c .before .before .before .before .before .before .before .before .before .before .before .before .before .before .before .before .before .before .before .hex-field .result .from; «pattern_to» = c .before .before .before .before .before .before .before .before .before .before .before .before .before .before .before .before .before .before .before .hex-field .result .to; action = c .before .before .action-at .result; «qos_policy» = c .before .policy-at .result; rate = c .before .before .before .before .before .number-field .result .value } ≡ ruleAt (c .before .before .before .before .before .before .before .before .before .before .before .before .before .before .before .before .before .before .before .before .before .before .before .args .text .now) (c .before .before .before .before .before .before .before .before .before .before .before .before .before .before .before .before .before .before .before .before .before .before .before .args .at) = rw (← hex-is (c .before .before .before .before .before .before .before .before .before .before .before .before .before .before .before .before .before .before .before), eq-eqb _ _ (c .before .before .before .before .before .before .before .before .before .before .before .before .before .before .before .before .before .if1 .left), ← c .before .before .before .before .before .before .before .before .before .before .before .before .before .before .word-field .ensures .0, eq-eqb _ _ (c .before .before .before .before .before .before .before .before .before .before .before .before .if2 .left), ← c .before .before .before .before .before .before .before .before .before .word-field2 .ensures .0, eq-eqb _ _ (c .before .before .before .before .before .before .before .if3 .left), ← c .before .before .before .before .before .number-field .ensures .0, eq-eqb _ _ (c .before .before .before .if4 .left), c .before .before .action-at .ensures, c .before .policy-at .ensures) in (e, (rule-within _ _ e, c .before .before .before .before .before .before .before .before .before .before .before .before .before .before .before .before .before .before .before .hex-field .ensures .1 .1))
+returns-5 c =
+    let action-at = c .before .before in
+    let after-rate = action-at .before in
+    let rate = after-rate .before .before in
+    let after-qos = rate .before .before in
+    let qos = after-qos .before .before in
+    let after-action = qos .before .before .before in
+    let action = after-action .before .before in
+    let after-pattern = action .before .before .before in
+    let pattern = after-pattern .before .before in
+    let start = pattern .before .before .before .before in
+    let e :
+    record {
+      number = 0;
+      line = 3;
+      next = rate .number-field .result .next;
+      «pattern_from» = pattern .hex-field .result .from;
+      «pattern_to» = pattern .hex-field .result .to;
+      action = action-at .action-at .result;
+      «qos_policy» = c .before .policy-at .result;
+      rate = rate .number-field .result .value;
+    }
+    ≡ ruleAt (start .args .text .now) (start .args .at) =
+    rw (
+      ← hex-is pattern,
+      eq-eqb _ _ (after-pattern .if1 .left),
+      ← action .word-field .ensures .0,
+      eq-eqb _ _ (after-action .if2 .left),
+      ← qos .word-field2 .ensures .0,
+      eq-eqb _ _ (after-qos .if3 .left),
+      ← rate .number-field .ensures .0,
+      eq-eqb _ _ (after-rate .if4 .left),
+      action-at .action-at .ensures,
+      c .before .policy-at .ensures,
+    ) in
+    (e, (rule-within _ _ e, pattern .hex-field .ensures .1 .1))
 
 pub read-rule-spec : {M : Type 1} → statement M
 read-rule-spec =

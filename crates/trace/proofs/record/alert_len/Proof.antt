@@ -42,11 +42,25 @@ slice-aggregate-hex-line-len-2 c = search needs
 hex-line-len-requires : tie.Need-hex-line-len-requires
 hex-line-len-requires c κs = search needs
 
-typed : (c : tie.After-hex-line-len) → Typed (c .before .before .before .before .before .before .before .before .before .before .before .before .args .alert)
+typed : (c : tie.After-hex-line-len)
+    → let start = c .before .before .before .before .before .before .before .before .before .before .before .before in
+    Typed (start .args .alert)
 typed c = record { id64 = search needs; kind32 = search needs; hash32 = search needs }
 
-sum : (c : tie.After-hex-line-len) → (c .before .before .before .before .before .before .before .before .number-line-len .result + c .before .before .before .before .before .number-line-len2 .result + c .before .before .before .number-line-len3 .result + c .hex-line-len .result ≡ length (alertText (c .before .before .before .before .before .before .before .before .before .before .before .before .args .alert))) × (c .before .before .before .before .before .before .before .before .number-line-len .result + c .before .before .before .before .before .number-line-len2 .result + c .before .before .before .number-line-len3 .result + c .hex-line-len .result ≤ 121)
-sum c = alert-sum _ (typed c) (c .before .before .before .before .before .before .before .before .number-line-len .ensures) (c .before .before .before .before .before .number-line-len2 .ensures) (c .before .before .before .before .before .before .before .before .before .before .severity-number .ensures) (c .before .before .before .number-line-len3 .ensures) (c .hex-line-len .ensures)
+sum : (c : tie.After-hex-line-len)
+    → let level = c .before .before .before in
+    let kind = level .before .before in
+    let id = kind .before .before .before in
+    let start = id .before .before .before .before in
+    let all = id .number-line-len .result + kind .number-line-len2 .result + level .number-line-len3 .result + c .hex-line-len .result in
+    (all ≡ length (alertText (start .args .alert))) × (all ≤ 121)
+sum c =
+    let level = c .before .before .before in
+    let kind = level .before .before in
+    let id = kind .before .before .before in
+    let severity = id .before .before in
+    alert-sum _ (typed c) (id .number-line-len .ensures) (kind .number-line-len2 .ensures) (severity .severity-number .ensures)
+    (level .number-line-len3 .ensures) (c .hex-line-len .ensures)
 
 add-result : tie.Need-add-result
 add-result c = omega (arith, sum c)

@@ -42,10 +42,17 @@ loop-less : tie.Need-loop-less Inv-loop μ-loop
 loop-less c = search needs
 
 loop-again : tie.Need-loop-again Inv-loop μ-loop
-loop-again c = let l : length (c .before .before .before .before .before .args .t1) ≡ 4 = search mapped-long in (omega arith, (omega arith, (rw (alerts-more (c .before .before .before .before .before .args .t1) (c .before .before .before .before .loop .i) (omega arith), length-append) (omega arith), omega arith)))
+loop-again c =
+    let loop = c .before .before .before .before in
+    let start = loop .before in
+    let l : length (start .args .t1) ≡ 4 = search mapped-long in
+    (omega arith, (omega arith, (rw (alerts-more (start .args .t1) (loop .loop .i) (omega arith), length-append) (omega arith), omega arith)))
 
 returns-2 : tie.Need-returns-2 Inv-loop μ-loop
-returns-2 c = let l : length (c .before .before .args .t1) ≡ 4 = search mapped-long in (rw (alerts-all (c .before .before .args .t1) (c .before .loop .i) (c .before .before .args .count) (omega arith) (omega arith)) at (c .before .loop .inv .1 .1 .0), omega arith)
+returns-2 c =
+    let start = c .before .before in
+    let l : length (start .args .t1) ≡ 4 = search mapped-long in
+    (rw (alerts-all (start .args .t1) (c .before .loop .i) (start .args .count) (omega arith) (omega arith)) at (c .before .loop .inv .1 .1 .0), omega arith)
 
 pub alerts-len-spec : {M : Type 1} → statement M
 alerts-len-spec =

@@ -33,8 +33,19 @@ slice-aggregate-number-line-len-4 c = search needs
 number-line-len-requires-4 : tie.Need-number-line-len-requires-4
 number-line-len-requires-4 c κs = search needs
 
-sum : (c : tie.After-number-line-len4) → (c .before .before .before .before .before .before .number-line-len .result + c .before .before .before .before .number-line-len2 .result + c .before .before .number-line-len3 .result + c .number-line-len4 .result ≡ length (closingText (c .before .before .before .before .before .before .before .before .args .number) (c .before .before .before .before .before .before .before .before .args .line) (c .before .before .before .before .before .before .before .before .args .inspected) (c .before .before .before .before .before .before .before .before .args .total))) × (c .before .before .before .before .before .before .number-line-len .result + c .before .before .before .before .number-line-len2 .result + c .before .before .number-line-len3 .result + c .number-line-len4 .result ≤ 109)
-sum c = closing-sum _ _ _ _ (omega arith) (omega arith) (omega arith) (omega arith) (c .before .before .before .before .before .before .number-line-len .ensures) (c .before .before .before .before .number-line-len2 .ensures) (c .before .before .number-line-len3 .ensures) (c .number-line-len4 .ensures)
+sum : (c : tie.After-number-line-len4)
+    → let messages = c .before .before in
+    let last = messages .before .before in
+    let end = last .before .before in
+    let start = end .before .before in
+    let all = end .number-line-len .result + last .number-line-len2 .result + messages .number-line-len3 .result + c .number-line-len4 .result in
+    (all ≡ length (closingText (start .args .number) (start .args .line) (start .args .inspected) (start .args .total))) × (all ≤ 109)
+sum c =
+    let messages = c .before .before in
+    let last = messages .before .before in
+    let end = last .before .before in
+    closing-sum _ _ _ _ (omega arith) (omega arith) (omega arith) (omega arith) (end .number-line-len .ensures) (last .number-line-len2 .ensures)
+    (messages .number-line-len3 .ensures) (c .number-line-len4 .ensures)
 
 add-result : tie.Need-add-result
 add-result c = omega (arith, sum c)

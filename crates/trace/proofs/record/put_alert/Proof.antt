@@ -43,7 +43,16 @@ same-length c = search needs
 
 returns : tie.Need-returns
 unfolding alertText
-returns c = wrote-then (wrote-then (wrote-then (c .before .before .before .before .before .before .before .before .before .before .before .before .before .before .before .before .before .before .before .put-number-line .ensures) (c .before .before .before .before .before .before .before .before .before .before .before .before .before .put-number-line2 .ensures)) (rw (c .before .before .before .before .before .before .before .before .before .before .before .before .before .before .before .before .before .before .before .before .before .before .severity-number .ensures) at (c .before .before .before .before .before .before .before .before .put-number-line3 .ensures))) (c .before .before .put-hex-line .ensures)
+returns c =
+    let hash = c .before .before in
+    let severity = hash .before .before .before .before .before .before in
+    let kind = severity .before .before .before .before .before in
+    let id = kind .before .before .before .before .before .before in
+    let number = id .before .before .before in
+    wrote-then
+    (wrote-then (wrote-then (id .put-number-line .ensures) (kind .put-number-line2 .ensures))
+    (rw (number .severity-number .ensures) at (severity .put-number-line3 .ensures)))
+    (hash .put-hex-line .ensures)
 
 pub put-alert-spec : {M : Type 1} → statement M
 put-alert-spec =

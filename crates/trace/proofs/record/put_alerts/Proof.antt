@@ -26,7 +26,10 @@ same-length : tie.Need-same-length Inv-loop μ-loop
 same-length c = wrote-length (c .before .before .loop .inv .1 .1)
 
 returns : tie.Need-returns Inv-loop μ-loop
-returns c = let e : c .before .before .loop .i ≡ c .before .before .before .before .args .count = omega arith in rw e at (c .before .before .loop .inv .1 .1)
+returns c =
+    let loop = c .before .before in
+    let start = loop .before .before in
+    let e : loop .loop .i ≡ start .args .count = omega arith in rw e at (loop .loop .inv .1 .1)
 
 mul-alert : tie.Need-mul-alert Inv-loop μ-loop
 mul-alert c = search needs
@@ -44,13 +47,21 @@ loop-less : tie.Need-loop-less Inv-loop μ-loop
 loop-less c = search needs
 
 loop-again : tie.Need-loop-again Inv-loop μ-loop
-loop-again c = let l : length (c .before .before .before .before .before .before .before .before .before .args .t3) ≡ 4 = search mapped-long in (omega arith, (omega arith, rw (alerts-more (c .before .before .before .before .before .before .before .before .before .args .t3) (c .before .before .before .before .before .before .before .loop .i) (omega arith)) (wrote-then (c .before .before .before .before .before .before .before .loop .inv .1 .1) (c .before .before .put-alert .ensures))))
+loop-again c =
+    let put = c .before .before in
+    let loop = put .before .before .before .before .before in
+    let start = loop .before .before in
+    let l : length (start .args .t3) ≡ 4 = search mapped-long in
+    (omega arith, (omega arith, rw (alerts-more (start .args .t3) (loop .loop .i) (omega arith)) (wrote-then (loop .loop .inv .1 .1) (put .put-alert .ensures))))
 
 same-length-2 : tie.Need-same-length-2 Inv-loop μ-loop
 same-length-2 c = wrote-length (c .before .loop .inv .1 .1)
 
 returns-2 : tie.Need-returns-2 Inv-loop μ-loop
-returns-2 c = let l : length (c .before .before .before .args .t3) ≡ 4 = search mapped-long in rw (alerts-all (c .before .before .before .args .t3) (c .before .loop .i) (c .before .before .before .args .count) (omega arith) (omega arith)) at (c .before .loop .inv .1 .1)
+returns-2 c =
+    let start = c .before .before .before in
+    let l : length (start .args .t3) ≡ 4 = search mapped-long in
+    rw (alerts-all (start .args .t3) (c .before .loop .i) (start .args .count) (omega arith) (omega arith)) at (c .before .loop .inv .1 .1)
 
 pub put-alerts-spec : {M : Type 1} → statement M
 put-alerts-spec =

@@ -34,7 +34,14 @@ same-length c = search needs
 
 returns : tie.Need-returns
 unfolding closingText
-returns c = wrote-then (wrote-then (wrote-then (c .before .before .before .before .before .before .before .before .before .before .before .before .before .before .before .before .before .put-number-line .ensures) (c .before .before .before .before .before .before .before .before .before .before .before .before .put-number-line2 .ensures)) (c .before .before .before .before .before .before .before .put-number-line3 .ensures)) (c .before .before .put-number-line4 .ensures)
+returns c =
+    let alerts = c .before .before in
+    let messages = alerts .before .before .before .before .before in
+    let last = messages .before .before .before .before .before in
+    let end = last .before .before .before .before .before in
+    wrote-then
+    (wrote-then (wrote-then (end .put-number-line .ensures) (last .put-number-line2 .ensures)) (messages .put-number-line3 .ensures))
+    (alerts .put-number-line4 .ensures)
 
 pub put-closing-spec : {M : Type 1} → statement M
 put-closing-spec =

@@ -37,7 +37,13 @@ same-length c = search needs
 
 returns : tie.Need-returns
 unfolding recordText
-returns c = wrote-then (wrote-then (wrote-then (c .before .before .before .before .before .before .before .before .before .before .before .before .before .before .before .before .put-number-line .ensures) (c .before .before .before .before .before .before .before .before .before .before .before .put-flag-line .ensures)) (c .before .before .before .before .before .before .put-number-line2 .ensures)) (c .before .before .put-alerts .ensures)
+returns c =
+    let alerts = c .before .before in
+    let count = alerts .before .before .before .before in
+    let allowed = count .before .before .before .before .before in
+    let ordinal = allowed .before .before .before .before .before in
+    wrote-then (wrote-then (wrote-then (ordinal .put-number-line .ensures) (allowed .put-flag-line .ensures)) (count .put-number-line2 .ensures))
+    (alerts .put-alerts .ensures)
 
 pub put-record-spec : {M : Type 1} → statement M
 put-record-spec =

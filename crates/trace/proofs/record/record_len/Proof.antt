@@ -36,8 +36,17 @@ cast-alerts-len c = search needs
 alerts-len-requires : tie.Need-alerts-len-requires
 alerts-len-requires c κs = search needs
 
-sum : (c : tie.After-alerts-len) → (c .before .before .before .before .before .number-line-len .result + c .before .before .before .flag-line-len .result + c .before .number-line-len2 .result + c .alerts-len .result ≡ length (recordText (c .before .before .before .before .before .before .before .before .args .n) (c .before .before .before .before .before .before .before .before .args .result))) × (c .before .before .before .before .before .number-line-len .result + c .before .before .before .flag-line-len .result + c .before .number-line-len2 .result + c .alerts-len .result ≤ 528)
-sum c = record-sum _ _ (search needs) (search needs) (c .before .before .before .before .before .number-line-len .ensures) (c .before .before .before .flag-line-len .ensures) (c .before .number-line-len2 .ensures) (c .alerts-len .ensures)
+sum : (c : tie.After-alerts-len)
+    → let allowed = c .before .before .before in
+    let ordinal = allowed .before .before in
+    let start = ordinal .before .before .before in
+    let all = ordinal .number-line-len .result + allowed .flag-line-len .result + c .before .number-line-len2 .result + c .alerts-len .result in
+    (all ≡ length (recordText (start .args .n) (start .args .result))) × (all ≤ 528)
+sum c =
+    let allowed = c .before .before .before in
+    let ordinal = allowed .before .before in
+    record-sum _ _ (search needs) (search needs) (ordinal .number-line-len .ensures) (allowed .flag-line-len .ensures)
+    (c .before .number-line-len2 .ensures) (c .alerts-len .ensures)
 
 add-result : tie.Need-add-result
 add-result c = omega (arith, sum c)

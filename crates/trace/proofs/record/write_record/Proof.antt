@@ -14,7 +14,10 @@ record-len-requires c κs = search needs
 
 returns-2 : tie.Need-returns-2
 unfolding recordRefusal recordWritten recordKept
-returns-2 c = let e = le-leb _ _ (c .before .before .if1 .left) in let g = lt-leb _ _ (c .if2 .taken) in (rw (e, ← c .before .record-len .ensures .0, g), rw (e, ← c .before .record-len .ensures .0, g))
+returns-2 c =
+    let counted = c .before .before in
+    let e = le-leb _ _ (counted .if1 .left) in
+    let g = lt-leb _ _ (c .if2 .taken) in (rw (e, ← c .before .record-len .ensures .0, g), rw (e, ← c .before .record-len .ensures .0, g))
 
 put-record-requires : tie.Need-put-record-requires
 put-record-requires c κs = search needs
@@ -24,7 +27,14 @@ same-length c = search needs
 
 returns-3 : tie.Need-returns-3
 unfolding recordRefusal recordWritten recordKept
-returns-3 c = let e = le-leb _ _ (c .before .before .before .before .before .before .if1 .left) in let g = le-leb _ _ (c .before .before .before .before .if2 .left) in (rw (e, ← c .before .before .before .before .before .record-len .ensures .0, g), rw (e, ← c .before .before .before .before .before .record-len .ensures .0, g) (c .before .before .put-record .ensures .bytes))
+returns-3 c =
+    let put = c .before .before in
+    let room = put .before .before in
+    let need = room .before in
+    let counted = need .before in
+    let e = le-leb _ _ (counted .if1 .left) in
+    let g = le-leb _ _ (room .if2 .left) in
+    (rw (e, ← need .record-len .ensures .0, g), rw (e, ← need .record-len .ensures .0, g) (put .put-record .ensures .bytes))
 
 pub write-record-spec : {M : Type 1} → statement M
 write-record-spec =

@@ -1,5 +1,5 @@
--- `trace::run::load` meets its contract. The invariant: what is left of the rules, loaded after the lines that were read into a fresh monitor with the rules of the table, is what the text loads; the
--- measure: the rules that are left. Assumes nothing.
+-- `trace::run::load` meets its contract. The invariant: what is left of the rules, loaded after the lines that were read into a fresh monitor with the rules of
+-- the table, is what the text loads; the measure: the rules that are left. Assumes nothing.
 use lib.Seq.{length-take-le}
 use mathlib.Core.Path.{_≡_, refl, sym}
 use Prim.Native.Nat.{_-_, _/_, _≤_, _<_}
@@ -14,7 +14,8 @@ use Rattle.trace.proofs.run.load.Statement.{statement}
 use Rattle.trace.proofs.run.load.Tie as tie
 
 abbrev Inv-loop : tie.InvT-loop
-Inv-loop text rules₀ rule-count₀ default-action at₀ pattern₀ line₀ left₀ rules rule-count at pattern line left = Loading text left line at default-action rules rule-count × (length pattern ≡ 128)
+Inv-loop text rules₀ rule-count₀ default-action at₀ pattern₀ line₀ left₀ rules rule-count at pattern line left =
+    Loading text left line at default-action rules rule-count × (length pattern ≡ 128)
 
 abbrev μ-loop : tie.MeasureT-loop
 μ-loop text rules₀ rule-count₀ default-action at₀ pattern₀ line₀ left₀ rules rule-count at pattern line left = left
@@ -35,13 +36,21 @@ add-t23 : tie.Need-add-t23 Inv-loop μ-loop
 add-t23 c = omega (arith, c .before .before .before .read-opening .ensures .1 .line)
 
 returns-2 : tie.Need-returns-2 Inv-loop μ-loop
-returns-2 c = load-none _ (c .before .before .before .before .if1 .left) (c .before .before .before .read-opening .ensures .0) (c .before .if2 .taken) (c .before .before .before .before .before .free-rules .ensures)
+returns-2 c =
+    let opening = c .before .before .before in
+    let opened = opening .before in
+    let free = opened .before in
+    load-none _ (opened .if1 .left) (opening .read-opening .ensures .0) (c .before .if2 .taken) (free .free-rules .ensures)
 
 buffer-128-requires : tie.Need-buffer-128-requires Inv-loop μ-loop
 buffer-128-requires c κs = search needs
 
 loop-holds : tie.Need-loop-holds Inv-loop μ-loop
-loop-holds c = (load-start _ (c .before .before .before .before .if1 .left) (c .before .before .before .read-opening .ensures .0) (c .before .if2 .left) (c .before .before .before .before .before .free-rules .ensures), c .buffer-128 .ensures)
+loop-holds c =
+    let opening = c .before .before .before in
+    let opened = opening .before in
+    let free = opened .before in
+    (load-start _ (opened .if1 .left) (opening .read-opening .ensures .0) (c .before .if2 .left) (free .free-rules .ensures), c .buffer-128 .ensures)
 
 read-rule-requires : tie.Need-read-rule-requires Inv-loop μ-loop
 read-rule-requires c κs = search needs
@@ -50,20 +59,40 @@ add-t28 : tie.Need-add-t28 Inv-loop μ-loop
 add-t28 c = omega (arith, c .before .before .before .before .before .loop .inv .0 .short, c .before .before .read-rule .ensures .1 .0 .line)
 
 cast-t29 : tie.Need-cast-t29 Inv-loop μ-loop
-cast-t29 c = omega (arith, c .before .before .before .before .before .before .loop .inv .0 .short, c .before .before .before .read-rule .ensures .1 .0 .line)
+cast-t29 c =
+    let read = c .before .before .before in
+    let loop = read .before .before .before in
+    omega (arith, loop .loop .inv .0 .short, read .read-rule .ensures .1 .0 .line)
 
 add-t30 : tie.Need-add-t30 Inv-loop μ-loop
-add-t30 c = omega (arith, c .before .before .before .before .before .before .loop .inv .0 .short, c .before .before .before .read-rule .ensures .1 .0 .line)
+add-t30 c =
+    let read = c .before .before .before in
+    let loop = read .before .before .before in
+    omega (arith, loop .loop .inv .0 .short, read .read-rule .ensures .1 .0 .line)
 
 returns-3 : tie.Need-returns-3 Inv-loop μ-loop
-returns-3 c = load-stop (c .before .before .before .before .before .before .loop .inv .0) (c .before .before .before .before .before .loop-test .taken) (c .before .before .before .read-rule .ensures .0) (c .before .if3 .taken)
+returns-3 c =
+    let read = c .before .before .before in
+    let test = read .before .before in
+    let loop = test .before in
+    load-stop (loop .loop .inv .0) (test .loop-test .taken) (read .read-rule .ensures .0) (c .before .if3 .taken)
 
 sub-n : tie.Need-sub-n Inv-loop μ-loop
 sub-n c = omega (arith, c .before .before .before .read-rule .ensures .1 .0 .ordered)
 
 -- the rule's pattern is the first bytes of its buffer
-pattern-has : (c : tie.Else3 Inv-loop μ-loop) → (take ((c .before .before .read-rule .result .«pattern_to» - c .before .before .read-rule .result .«pattern_from») / 2) (c .before .before .read-rule .last .1 .1 .0) ≡ patternIn (c .before .before .before .before .before .before .before .before .before .before .before .before .before .args .text .now) (c .before .before .read-rule .result)) × (((c .before .before .read-rule .result .«pattern_to» - c .before .before .read-rule .result .«pattern_from») / 2) ≤ length (c .before .before .read-rule .last .1 .1 .0)) × (length (c .before .before .read-rule .last .1 .1 .0) ≡ 128)
-pattern-has c = pattern-part _ _ _ (c .before .before .read-rule .ensures .0) (c .if3 .left) (c .before .before .before .before .before .loop .inv .1) (c .before .before .read-rule .ensures .1 .1) refl
+pattern-has : (c : tie.Else3 Inv-loop μ-loop)
+    → let read = c .before .before in
+    let opened = read .before .before .before .before .before .before .before .before in
+    let start = opened .before .before .before in
+    (take ((read .read-rule .result .«pattern_to» - read .read-rule .result .«pattern_from») / 2) (read .read-rule .last .1 .1 .0) ≡ patternIn (start .args .text .now)
+    (read .read-rule .result))
+    × (((read .read-rule .result .«pattern_to» - read .read-rule .result .«pattern_from») / 2) ≤ length (read .read-rule .last .1 .1 .0))
+    × (length (read .read-rule .last .1 .1 .0) ≡ 128)
+pattern-has c =
+    let read = c .before .before in
+    let loop = read .before .before .before in
+    pattern-part _ _ _ (read .read-rule .ensures .0) (c .if3 .left) (loop .loop .inv .1) (read .read-rule .ensures .1 .1) refl
 
 array-share-prefix-pattern : tie.Need-array-share-prefix-pattern Inv-loop μ-loop
 array-share-prefix-pattern c = pattern-has (c .before) .1
@@ -75,13 +104,22 @@ plan-rule-requires : tie.Need-plan-rule-requires Inv-loop μ-loop
 plan-rule-requires c κs = search needs
 
 add-line : tie.Need-add-line Inv-loop μ-loop
-add-line c = omega (arith, c .before .before .before .before .before .before .before .before .loop .inv .0 .short)
+add-line c =
+    let loop = c .before .before .before .before .before .before .before .before in
+    omega (arith, loop .loop .inv .0 .short)
 
 sub-left : tie.Need-sub-left Inv-loop μ-loop
 sub-left c = omega (arith, c .before .before .before .before .before .before .before .loop-test .taken)
 
 returns-4 : tie.Need-returns-4 Inv-loop μ-loop
-returns-4 c = load-refused (c .before .before .before .before .before .before .before .before .before .before .loop .inv .0) (c .before .before .before .before .before .before .before .before .before .loop-test .taken) (c .before .before .before .before .before .before .before .read-rule .ensures .0) (c .before .before .before .before .before .if3 .left) (pattern-has (c .before .before .before .before .before) .0) (c .before .before .plan-rule .ensures) (c .if4 .taken)
+returns-4 c =
+    let plan = c .before .before in
+    let rule = plan .before .before .before in
+    let read = rule .before .before in
+    let test = read .before .before in
+    let loop = test .before in
+    load-refused (loop .loop .inv .0) (test .loop-test .taken) (read .read-rule .ensures .0) (rule .if3 .left) (pattern-has rule .0) (plan .plan-rule .ensures)
+    (c .if4 .taken)
 
 mul-rules : tie.Need-mul-rules Inv-loop μ-loop
 mul-rules c = let h : c .before .before .before .plan-rule .result .at < 32 = plan-place _ _ _ _ _ _ (c .before .before .before .plan-rule .ensures) (c .before .if4 .left) in omega (arith, h)
@@ -90,10 +128,22 @@ array-set-from-rules : tie.Need-array-set-from-rules Inv-loop μ-loop
 array-set-from-rules c = plan-place _ _ _ _ _ _ (c .before .before .before .plan-rule .ensures) (c .before .if4 .left)
 
 loop-less : tie.Need-loop-less Inv-loop μ-loop
-loop-less c = omega (arith, c .before .before .before .before .before .before .before .before .before .before .loop-test .taken)
+loop-less c =
+    let rule = c .before .before .before .before .before .before in
+    let test = rule .before .before .before .before in
+    omega (arith, test .loop-test .taken)
 
 loop-again : tie.Need-loop-again Inv-loop μ-loop
-loop-again c = (load-turn (c .before .before .before .before .before .before .before .before .before .before .before .loop .inv .0) (c .before .before .before .before .before .before .before .before .before .before .loop-test .taken) (c .before .before .before .before .before .before .before .before .read-rule .ensures .0) (c .before .before .before .before .before .before .if3 .left) (pattern-has (c .before .before .before .before .before .before) .0) (c .before .before .before .plan-rule .ensures) (c .before .if4 .left), pattern-has (c .before .before .before .before .before .before) .2)
+loop-again c =
+    let plan = c .before .before .before in
+    let rule = plan .before .before .before in
+    let read = rule .before .before in
+    let test = read .before .before in
+    let loop = test .before in (
+      load-turn (loop .loop .inv .0) (test .loop-test .taken) (read .read-rule .ensures .0) (rule .if3 .left) (pattern-has rule .0) (plan .plan-rule .ensures)
+          (c .before .if4 .left),
+      pattern-has rule .2,
+    )
 
 returns-5 : tie.Need-returns-5 Inv-loop μ-loop
 returns-5 c = load-end (c .before .loop .inv .0) (omega (arith, c .loop-test .left))

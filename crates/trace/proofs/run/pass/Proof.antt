@@ -1,5 +1,5 @@
--- `trace::run::pass` meets its contract. The invariant: what the messages left print, from the place in the buffer on, completes what the whole trace prints (RunLaws, `Going`), and the two buffers keep
--- their lengths; the measure: the bytes of the text that are left. Assumes nothing.
+-- `trace::run::pass` meets its contract. The invariant: what the messages left print, from the place in the buffer on, completes what the whole trace prints
+-- (RunLaws, `Going`), and the two buffers keep their lengths; the measure: the bytes of the text that are left. Assumes nothing.
 use Prim.Native.Nat.{_-_, _≤_}
 use mathlib.Core.Logic.{⊎-elim}
 use mathlib.Core.Path.{_≡_, sym, ap, _∙_}
@@ -14,12 +14,14 @@ use Rattle.monitor.proofs.ApplyLaws.{stored-yes, stored-no, withClients, withBu
 use Rattle.trace.specs.Groups.{topicIn, payloadIn}
 use Rattle.trace.specs.Trace.{planned}
 use Rattle.trace.proofs.BufferLaws.{topic-part, payload-part}
-use Rattle.trace.proofs.RunLaws.{Going, going-start, going-small, turn-room, going-turn, close-room, close-end, close-bytes, left-end, left-stop, plan-sent, sentAt, read-further, unloaded-text, unloaded-end}
+use Rattle.trace.proofs.RunLaws.{Going, going-start, going-small, turn-room, going-turn, close-room, close-end, close-bytes}
+use Rattle.trace.proofs.RunLaws.{left-end, left-stop, plan-sent, sentAt, read-further, unloaded-text, unloaded-end}
 use Rattle.trace.proofs.run.pass.Statement.{statement}
 use Rattle.trace.proofs.run.pass.Tie as tie
 
 abbrev Inv-loop : tie.InvT-loop
-Inv-loop text out₀ write m₀ at₀ line₀ topic₀ payload₀ n₀ p₀ out m at line topic payload n p = Going text write out₀ out m n at line p × (length topic ≡ 128) × (length payload ≡ 256)
+Inv-loop text out₀ write m₀ at₀ line₀ topic₀ payload₀ n₀ p₀ out m at line topic payload n p =
+    Going text write out₀ out m n at line p × (length topic ≡ 128) × (length payload ≡ 256)
 
 abbrev μ-loop : tie.MeasureT-loop
 μ-loop text out₀ write m₀ at₀ line₀ topic₀ payload₀ n₀ p₀ out m at line topic payload n p = length text - at
@@ -31,13 +33,24 @@ started-requires : tie.Need-started-requires Inv-loop μ-loop
 started-requires c κs = search needs
 
 pass-closing-requires : tie.Need-pass-closing-requires Inv-loop μ-loop
-pass-closing-requires c κs = (omega arith, λ w. omega (arith, c .before .before .before .before .before .before .before .before .pre w, ap length (unloaded-text _ (c .before .before .before .before .before .load .ensures) (c .before .before .before .started .ensures) (c .before .if1 .taken))))
+pass-closing-requires c κs =
+    let begun = c .before .before .before in
+    let loaded = begun .before .before in
+    let start = loaded .before .before .before in
+    (omega arith, λ w. omega (arith, start .pre w, ap length (unloaded-text _ (loaded .load .ensures) (begun .started .ensures) (c .before .if1 .taken))))
 
 same-length : tie.Need-same-length Inv-loop μ-loop
 same-length c = c .before .before .pass-closing .kept .0
 
 returns : tie.Need-returns Inv-loop μ-loop
-returns c = (unloaded-end _ (c .before .before .before .before .before .before .before .before .load .ensures) (c .before .before .before .before .before .before .started .ensures) (c .before .before .before .before .if1 .taken) (c .before .before .pass-closing .ensures .0), rw (unloaded-text _ (c .before .before .before .before .before .before .before .before .load .ensures) (c .before .before .before .before .before .before .started .ensures) (c .before .before .before .before .if1 .taken)) (c .before .before .pass-closing .ensures .1))
+returns c =
+    let closed = c .before .before in
+    let tested = closed .before .before in
+    let begun = tested .before .before in
+    let loaded = begun .before .before in (
+      unloaded-end _ (loaded .load .ensures) (begun .started .ensures) (tested .if1 .taken) (closed .pass-closing .ensures .0),
+      rw (unloaded-text _ (loaded .load .ensures) (begun .started .ensures) (tested .if1 .taken)) (closed .pass-closing .ensures .1),
+    )
 
 buffer-128-requires : tie.Need-buffer-128-requires Inv-loop μ-loop
 buffer-128-requires c κs = search needs
@@ -46,28 +59,82 @@ buffer-256-requires : tie.Need-buffer-256-requires Inv-loop μ-loop
 buffer-256-requires c κs = search needs
 
 loop-holds : tie.Need-loop-holds Inv-loop μ-loop
-loop-holds c = (going-start _ (c .before .before .before .before .before .before .load .ensures) (c .before .before .before .before .started .ensures) _ _ (c .before .before .if1 .left), c .before .buffer-128 .ensures, c .buffer-256 .ensures)
+loop-holds c =
+    let tested = c .before .before in
+    let begun = tested .before .before in
+    let loaded = begun .before .before in
+    (going-start _ (loaded .load .ensures) (begun .started .ensures) _ _ (tested .if1 .left), c .before .buffer-128 .ensures, c .buffer-256 .ensures)
 
 read-message-requires : tie.Need-read-message-requires Inv-loop μ-loop
 read-message-requires c κs = search needs
 
 add-pass-closing : tie.Need-add-pass-closing Inv-loop μ-loop
-add-pass-closing c = omega (arith, c .before .before .before .before .before .before .before .loop .inv .0 .lines, c .before .before .before .before .before .before .before .loop .inv .0 .short, c .before .before .before .before .before .before .loop-test .taken, c .before .before .before .read-message .ensures .1 .0 .line)
+add-pass-closing c =
+    let read = c .before .before .before in
+    let test = read .before .before .before in
+    let going = test .before .loop .inv .0 in omega (arith, going .lines, going .short, test .loop-test .taken, read .read-message .ensures .1 .0 .line)
 
 cast-pass-closing : tie.Need-cast-pass-closing Inv-loop μ-loop
-cast-pass-closing c = omega (arith, c .before .before .before .before .before .before .before .before .loop .inv .0 .lines, c .before .before .before .before .before .before .before .before .loop .inv .0 .short, c .before .before .before .before .before .before .before .loop-test .taken, c .before .before .before .before .read-message .ensures .1 .0 .line)
+cast-pass-closing c =
+    let read = c .before .before .before .before in
+    let test = read .before .before .before in
+    let going = test .before .loop .inv .0 in omega (arith, going .lines, going .short, test .loop-test .taken, read .read-message .ensures .1 .0 .line)
 
 add-pass-closing-2 : tie.Need-add-pass-closing-2 Inv-loop μ-loop
-add-pass-closing-2 c = omega (arith, c .before .before .before .before .before .before .before .before .loop .inv .0 .lines, c .before .before .before .before .before .before .before .before .loop .inv .0 .short, c .before .before .before .before .before .before .before .loop-test .taken, c .before .before .before .before .read-message .ensures .1 .0 .line)
+add-pass-closing-2 c =
+    let read = c .before .before .before .before in
+    let test = read .before .before .before in
+    let going = test .before .loop .inv .0 in omega (arith, going .lines, going .short, test .loop-test .taken, read .read-message .ensures .1 .0 .line)
+
+-- the places behind a turn's end: its plan, its gate, the message that was read, the loop's head; and the function's start
+abbrev at-plan : tie.Joined5 Inv-loop μ-loop → tie.After-plan-from Inv-loop μ-loop
+at-plan c = c .before .before .before .before .before .before .before
+
+abbrev at-gate : tie.After-plan-from Inv-loop μ-loop → tie.After-gate-for Inv-loop μ-loop
+at-gate c = c .before .before .before .before .before .before .before .before .before
+
+abbrev at-message : tie.After-gate-for Inv-loop μ-loop → tie.Else2 Inv-loop μ-loop
+at-message c = c .before .before .before .before .before .before
+
+abbrev at-turn : tie.Joined5 Inv-loop μ-loop → tie.Else2 Inv-loop μ-loop
+at-turn c = at-message (at-gate (at-plan c))
+
+abbrev at-head : tie.After-plan-from Inv-loop μ-loop → tie.At-loop Inv-loop μ-loop
+at-head c = at-message (at-gate c) .before .before .before .before .before .before
+
+abbrev at-start : tie.At-loop Inv-loop μ-loop → tie.Start Inv-loop μ-loop
+at-start c = c .before .before .before .before .before .before .before .before .before .before
 
 pass-closing-requires-2 : tie.Need-pass-closing-requires-2 Inv-loop μ-loop
-pass-closing-requires-2 c κs = (going-small (c .before .before .before .before .before .before .before .before .loop .inv .0), close-room (c .before .before .before .before .before .before .before .before .loop .inv .0) (c .before .before .before .before .before .before .before .before .before .before .before .before .before .before .before .before .before .before .pre) (left-stop _ (c .before .before .before .before .before .before .before .before .loop .line) (c .before .before .before .before .before .before .before .loop-test .taken) (c .before .before .before .before .read-message .ensures .0) (c .before .before .if2 .taken)))
+pass-closing-requires-2 c κs =
+    let refused = c .before .before in
+    let read = refused .before .before in
+    let test = read .before .before .before in
+    let loop = test .before in
+    let start = at-start loop in (
+      going-small (loop .loop .inv .0),
+      close-room (loop .loop .inv .0) (start .pre) (left-stop _ (loop .loop .line) (test .loop-test .taken) (read .read-message .ensures .0) (refused .if2 .taken)),
+    )
 
 same-length-2 : tie.Need-same-length-2 Inv-loop μ-loop
-same-length-2 c = c .before .before .pass-closing2 .kept .0 ∙ c .before .before .before .before .before .before .before .before .before .before .before .loop .inv .0 .long
+same-length-2 c =
+    let closed = c .before .before in
+    let loop = closed .before .before .before .before .before .before .before .before .before in
+    closed .pass-closing2 .kept .0 ∙ loop .loop .inv .0 .long
 
 returns-2 : tie.Need-returns-2 Inv-loop μ-loop
-returns-2 c = (close-end (c .before .before .before .before .before .before .before .before .before .before .before .loop .inv .0) (c .before .before .before .before .before .before .before .before .before .before .before .before .before .before .before .before .before .before .before .before .before .pre) (left-stop _ (c .before .before .before .before .before .before .before .before .before .before .before .loop .line) (c .before .before .before .before .before .before .before .before .before .before .loop-test .taken) (c .before .before .before .before .before .before .before .read-message .ensures .0) (c .before .before .before .before .before .if2 .taken)) (c .before .before .pass-closing2 .ensures .0), close-bytes (c .before .before .before .before .before .before .before .before .before .before .before .loop .inv .0) (c .before .before .before .before .before .before .before .before .before .before .before .before .before .before .before .before .before .before .before .before .before .pre) (left-stop _ (c .before .before .before .before .before .before .before .before .before .before .before .loop .line) (c .before .before .before .before .before .before .before .before .before .before .loop-test .taken) (c .before .before .before .before .before .before .before .read-message .ensures .0) (c .before .before .before .before .before .if2 .taken)) (c .before .before .pass-closing2 .ensures .1))
+returns-2 c =
+    let closed = c .before .before in
+    let refused = closed .before .before .before in
+    let read = refused .before .before in
+    let test = read .before .before .before in
+    let loop = test .before in
+    let start = at-start loop in (
+      close-end (loop .loop .inv .0) (start .pre) (left-stop _ (loop .loop .line) (test .loop-test .taken) (read .read-message .ensures .0) (refused .if2 .taken))
+          (closed .pass-closing2 .ensures .0),
+      close-bytes (loop .loop .inv .0) (start .pre) (left-stop _ (loop .loop .line) (test .loop-test .taken) (read .read-message .ensures .0) (refused .if2 .taken))
+          (closed .pass-closing2 .ensures .1),
+    )
 
 cast-topic-len : tie.Need-cast-topic-len Inv-loop μ-loop
 cast-topic-len c = search needs
@@ -76,11 +143,28 @@ cast-payload-len : tie.Need-cast-payload-len Inv-loop μ-loop
 cast-payload-len c = search needs
 
 -- the message's topic and payload are the first bytes of their buffers
-topic-has : (c : tie.Else2 Inv-loop μ-loop) → (take (c .before .before .read-message .result .msg .«topic_len») (c .before .before .read-message .last .1 .1 .0) ≡ topicIn (c .before .before .before .before .before .before .before .before .before .before .before .before .before .before .before .before .args .text .now) (c .before .before .read-message .result)) × (c .before .before .read-message .result .msg .«topic_len» ≤ length (c .before .before .read-message .last .1 .1 .0)) × (length (c .before .before .read-message .last .1 .1 .0) ≡ 128)
-topic-has c = topic-part _ _ _ (c .before .before .read-message .ensures .0) (c .if2 .left) (c .before .before .before .before .before .before .loop .inv .1) (c .before .before .read-message .ensures .1 .1 .0)
+topic-has : (c : tie.Else2 Inv-loop μ-loop)
+    → let read = c .before .before in
+    let loop = read .before .before .before .before in
+    let start = at-start loop in
+    (take (read .read-message .result .msg .«topic_len») (read .read-message .last .1 .1 .0) ≡ topicIn (start .args .text .now) (read .read-message .result))
+    × (read .read-message .result .msg .«topic_len» ≤ length (read .read-message .last .1 .1 .0)) × (length (read .read-message .last .1 .1 .0) ≡ 128)
+topic-has c =
+    let read = c .before .before in
+    let loop = read .before .before .before .before in
+    topic-part _ _ _ (read .read-message .ensures .0) (c .if2 .left) (loop .loop .inv .1) (read .read-message .ensures .1 .1 .0)
 
-payload-has : (c : tie.Else2 Inv-loop μ-loop) → (take (c .before .before .read-message .result .msg .«payload_inspectable_len») (c .before .before .read-message .last .1 .1 .1 .0) ≡ payloadIn (c .before .before .before .before .before .before .before .before .before .before .before .before .before .before .before .before .args .text .now) (c .before .before .read-message .result)) × (c .before .before .read-message .result .msg .«payload_inspectable_len» ≤ length (c .before .before .read-message .last .1 .1 .1 .0)) × (length (c .before .before .read-message .last .1 .1 .1 .0) ≡ 256)
-payload-has c = payload-part _ _ _ (c .before .before .read-message .ensures .0) (c .if2 .left) (c .before .before .before .before .before .before .loop .inv .2) (c .before .before .read-message .ensures .1 .1 .1)
+payload-has : (c : tie.Else2 Inv-loop μ-loop)
+    → let read = c .before .before in
+    let loop = read .before .before .before .before in
+    let start = at-start loop in
+    (take (read .read-message .result .msg .«payload_inspectable_len») (read .read-message .last .1 .1 .1 .0) ≡ payloadIn (start .args .text .now)
+    (read .read-message .result))
+    × (read .read-message .result .msg .«payload_inspectable_len» ≤ length (read .read-message .last .1 .1 .1 .0)) × (length (read .read-message .last .1 .1 .1 .0) ≡ 256)
+payload-has c =
+    let read = c .before .before in
+    let loop = read .before .before .before .before in
+    payload-part _ _ _ (read .read-message .ensures .0) (c .if2 .left) (loop .loop .inv .2) (read .read-message .ensures .1 .1 .1)
 
 array-share-prefix-topic : tie.Need-array-share-prefix-topic Inv-loop μ-loop
 array-share-prefix-topic c = topic-has (c .before .before .before) .1
@@ -104,10 +188,14 @@ fed-for-requires : tie.Need-fed-for-requires Inv-loop μ-loop
 fed-for-requires c κs = search needs
 
 array-share-prefix-payload : tie.Need-array-share-prefix-payload Inv-loop μ-loop
-array-share-prefix-payload c = payload-has (c .before .before .before .before .before .before .before .before .before .before .before .before .before) .1
+array-share-prefix-payload c =
+    let gate = c .before .before .before .before .before .before .before in
+    payload-has (at-message gate) .1
 
 slice-aggregate-plan-from : tie.Need-slice-aggregate-plan-from Inv-loop μ-loop
-slice-aggregate-plan-from c = sym (length-take-le _ _ (payload-has (c .before .before .before .before .before .before .before .before .before .before .before .before .before .before) .1))
+slice-aggregate-plan-from c =
+    let gate = c .before .before .before .before .before .before .before .before in
+    sym (length-take-le _ _ (payload-has (at-message gate) .1))
 
 plan-from-requires : tie.Need-plan-from-requires Inv-loop μ-loop
 plan-from-requires c κs = search needs
@@ -134,60 +222,130 @@ element-set-from-tracker : tie.Need-element-set-from-tracker Inv-loop μ-loop
 element-set-from-tracker c = search needs
 
 -- its plan is that of the message sent
-plan-is : (c : tie.After-plan-from Inv-loop μ-loop) → c .plan-from .result ≡ planned (c .before .before .before .before .before .before .before .before .before .before .before .before .before .before .before .before .before .before .before .before .before .loop .m) (sentAt (c .before .before .before .before .before .before .before .before .before .before .before .before .before .before .before .before .before .before .before .before .before .before .before .before .before .before .before .before .before .before .before .args .text .now) (c .before .before .before .before .before .before .before .before .before .before .before .before .before .before .before .before .before .before .before .before .before .loop .at))
-plan-is c = plan-sent _ _ _ (c .before .before .before .before .before .before .before .before .before .before .before .before .before .before .before .before .before .read-message .ensures .0) (topic-has (c .before .before .before .before .before .before .before .before .before .before .before .before .before .before .before) .0) (payload-has (c .before .before .before .before .before .before .before .before .before .before .before .before .before .before .before) .0) (composed portMatches _ _ _ _ (c .before .before .before .before .before .before .before .before .before .gate-for .ensures) (c .before .before .before .before .before .before .before .seen-for .ensures) (c .before .before .before .before .before .before .id-for .ensures) (c .before .before .before .before .spent-for .ensures) (c .before .before .fed-for .ensures) (c .plan-from .ensures))
+plan-is : (c : tie.After-plan-from Inv-loop μ-loop)
+    → let loop = at-head c in
+    let start = at-start loop in
+    c .plan-from .result ≡ planned (loop .loop .m) (sentAt (start .args .text .now) (loop .loop .at))
+plan-is c =
+    let fed = c .before .before in
+    let spent = fed .before .before in
+    let id = spent .before .before in
+    let seen = id .before in
+    let gate = seen .before .before in
+    let message = at-message gate in
+    let read = message .before .before in
+    plan-sent _ _ _ (read .read-message .ensures .0) (topic-has message .0) (payload-has message .0)
+    (composed portMatches _ _ _ _ (gate .gate-for .ensures) (seen .seen-for .ensures) (id .id-for .ensures) (spent .spent-for .ensures) (fed .fed-for .ensures)
+    (c .plan-from .ensures))
 
 -- the state after each store, where the ways from its test meet
-client-is : (c : tie.Joined3 Inv-loop μ-loop) → c .if3 .m ≡ withClients (c .before .before .before .before .before .before .before .before .before .before .before .before .before .before .before .before .before .before .before .before .before .before .before .before .loop .m) (storedAt 16 (c .before .before .before .before .before .before .before .before .before .before .before .before .before .before .before .before .before .before .before .before .before .before .before .before .loop .m .«client_hashes») (c .before .before .before .plan-from .result .seen .at) (c .before .before .before .plan-from .result .seen .entry))
+client-is : (c : tie.Joined3 Inv-loop μ-loop)
+    → let plan = c .before .before .before in
+    let loop = at-head plan in
+    c .if3 .m ≡ withClients (loop .loop .m) (storedAt 16 (loop .loop .m .«client_hashes») (plan .plan-from .result .seen .at) (plan .plan-from .result .seen .entry))
 client-is c =
-    let m = c .before .before .before .before .before .before .before .before .before .before .before .before .before .before .before .before .before .before .before .before .before .before .before .before .loop .m in
-    let d = c .before .before .before .plan-from .result .seen in
-    ⊎-elim
-    (λ w. stored-yes (withClients m) 16 (m .«client_hashes») (d .at) (d .entry) (w .0 .taken) (w .2))
-    (λ w. stored-no (withClients m) 16 (m .«client_hashes») (d .at) (d .entry) (w .0 .left) (w .1))
-    (c .if3 .came)
+    let plan = c .before .before .before in
+    let loop = at-head plan in
+    let m = loop .loop .m in
+    let d = plan .plan-from .result .seen in
+    ⊎-elim (λ w. stored-yes (withClients m) 16 (m .«client_hashes») (d .at) (d .entry) (w .0 .taken) (w .2))
+    (λ w. stored-no (withClients m) 16 (m .«client_hashes») (d .at) (d .entry) (w .0 .left) (w .1)) (c .if3 .came)
 
-bucket-is : (c : tie.Joined4 Inv-loop μ-loop) → c .if4 .m ≡ withBuckets (c .before .before .if3 .m) (storedAt 32 (c .before .before .if3 .m .«rate_buckets») (c .before .before .before .before .before .plan-from .result .spent .at) (c .before .before .before .before .before .plan-from .result .spent .bucket))
+bucket-is : (c : tie.Joined4 Inv-loop μ-loop)
+    → let client = c .before .before in
+    let plan = client .before .before .before in
+    c .if4 .m ≡ withBuckets (client .if3 .m) (storedAt 32 (client .if3 .m .«rate_buckets») (plan .plan-from .result .spent .at) (plan .plan-from .result .spent .bucket))
 bucket-is c =
-    let m = c .before .before .if3 .m in
-    let d = c .before .before .before .before .before .plan-from .result .spent in
-    ⊎-elim
-    (λ w. stored-yes (withBuckets m) 32 (m .«rate_buckets») (d .at) (d .bucket) (w .0 .taken) (w .2))
-    (λ w. stored-no (withBuckets m) 32 (m .«rate_buckets») (d .at) (d .bucket) (w .0 .left) (w .1))
-    (c .if4 .came)
+    let client = c .before .before in
+    let plan = client .before .before .before in
+    let m = client .if3 .m in
+    let d = plan .plan-from .result .spent in
+    ⊎-elim (λ w. stored-yes (withBuckets m) 32 (m .«rate_buckets») (d .at) (d .bucket) (w .0 .taken) (w .2))
+    (λ w. stored-no (withBuckets m) 32 (m .«rate_buckets») (d .at) (d .bucket) (w .0 .left) (w .1)) (c .if4 .came)
 
-tracker-is : (c : tie.Joined5 Inv-loop μ-loop) → c .if5 .m ≡ withTrackers (c .before .before .if4 .m) (storedAt 16 (c .before .before .if4 .m .«ewma_trackers») (c .before .before .before .before .before .before .before .plan-from .result .fed .at) (c .before .before .before .before .before .before .before .plan-from .result .fed .tracker))
+tracker-is : (c : tie.Joined5 Inv-loop μ-loop)
+    → let bucket = c .before .before in
+    let plan = bucket .before .before .before .before .before in
+    c .if5 .m ≡ withTrackers (bucket .if4 .m) (storedAt 16 (bucket .if4 .m .«ewma_trackers») (plan .plan-from .result .fed .at) (plan .plan-from .result .fed .tracker))
 tracker-is c =
-    let m = c .before .before .if4 .m in
-    let d = c .before .before .before .before .before .before .before .plan-from .result .fed in
-    ⊎-elim
-    (λ w. stored-yes (withTrackers m) 16 (m .«ewma_trackers») (d .at) (d .tracker) (w .0 .taken) (w .2))
-    (λ w. stored-no (withTrackers m) 16 (m .«ewma_trackers») (d .at) (d .tracker) (w .0 .left) (w .1))
-    (c .if5 .came)
+    let bucket = c .before .before in
+    let plan = bucket .before .before .before .before .before in
+    let m = bucket .if4 .m in
+    let d = plan .plan-from .result .fed in
+    ⊎-elim (λ w. stored-yes (withTrackers m) 16 (m .«ewma_trackers») (d .at) (d .tracker) (w .0 .taken) (w .2))
+    (λ w. stored-no (withTrackers m) 16 (m .«ewma_trackers») (d .at) (d .tracker) (w .0 .left) (w .1)) (c .if5 .came)
 
 pass-record-requires : tie.Need-pass-record-requires Inv-loop μ-loop
-pass-record-requires c κs = (going-small (c .before .before .before .before .before .before .before .before .before .before .before .before .before .before .before .before .before .before .before .before .before .before .before .before .before .before .before .before .before .before .before .loop .inv .0), turn-room (c .before .before .before .before .before .before .before .before .before .before .before .before .before .before .before .before .before .before .before .before .before .before .before .before .before .before .before .before .before .before .before .loop .inv .0) (c .before .before .before .before .before .before .before .before .before .before .before .before .before .before .before .before .before .before .before .before .before .before .before .before .before .before .before .before .before .before .before .before .before .before .before .before .before .before .before .before .before .pre) (c .before .before .before .before .before .before .before .before .before .before .before .before .before .before .before .before .before .before .before .before .before .before .before .before .before .before .before .before .before .before .loop-test .taken) (c .before .before .before .before .before .before .before .before .before .before .before .before .before .before .before .before .before .before .before .before .before .before .before .before .before .before .before .read-message .ensures .0) (c .before .before .before .before .before .before .before .before .before .before .before .before .before .before .before .before .before .before .before .before .before .before .before .before .before .if2 .left) (plan-is (c .before .before .before .before .before .before .before .before .before .before)))
+pass-record-requires c κs =
+    let plan = at-plan (c .before .before .before) in
+    let message = at-message (at-gate plan) in
+    let read = message .before .before in
+    let test = read .before .before .before in
+    let loop = test .before in
+    let start = at-start loop in (
+      going-small (loop .loop .inv .0),
+      turn-room (loop .loop .inv .0) (start .pre) (test .loop-test .taken) (read .read-message .ensures .0) (message .if2 .left) (plan-is plan),
+    )
 
 add-line : tie.Need-add-line Inv-loop μ-loop
-add-line c = omega (arith, c .before .before .before .before .before .before .before .before .before .before .before .before .before .before .before .before .before .before .before .before .before .before .before .before .before .before .before .before .before .before .before .before .before .before .loop .inv .0 .lines, c .before .before .before .before .before .before .before .before .before .before .before .before .before .before .before .before .before .before .before .before .before .before .before .before .before .before .before .before .before .before .before .before .before .before .loop .inv .0 .short, c .before .before .before .before .before .before .before .before .before .before .before .before .before .before .before .before .before .before .before .before .before .before .before .before .before .before .before .before .before .before .before .before .before .loop-test .taken)
+add-line c =
+    let message = at-turn (c .before .before .before .before .before .before) in
+    let test = message .before .before .before .before .before in
+    let going = test .before .loop .inv .0 in omega (arith, going .lines, going .short, test .loop-test .taken)
 
 add-n : tie.Need-add-n Inv-loop μ-loop
-add-n c = omega (arith, c .before .before .before .before .before .before .before .before .before .before .before .before .before .before .before .before .before .before .before .before .before .before .before .before .before .before .before .before .before .before .before .before .before .before .loop .inv .0 .ordinal, c .before .before .before .before .before .before .before .before .before .before .before .before .before .before .before .before .before .before .before .before .before .before .before .before .before .before .before .before .before .before .before .before .before .before .loop .inv .0 .short, c .before .before .before .before .before .before .before .before .before .before .before .before .before .before .before .before .before .before .before .before .before .before .before .before .before .before .before .before .before .before .before .before .before .loop-test .taken)
+add-n c =
+    let message = at-turn (c .before .before .before .before .before .before) in
+    let test = message .before .before .before .before .before in
+    let going = test .before .loop .inv .0 in omega (arith, going .ordinal, going .short, test .loop-test .taken)
 
 loop-less : tie.Need-loop-less Inv-loop μ-loop
-loop-less c = omega (arith, c .before .before .before .before .before .before .before .before .before .before .before .before .before .before .before .before .before .before .before .before .before .before .before .before .before .before .before .before .before .before .before .before .before .loop-test .taken, read-further (c .before .before .before .before .before .before .before .before .before .before .before .before .before .before .before .before .before .before .before .before .before .before .before .before .before .before .before .before .before .before .before .before .before .before .before .before .before .before .before .before .before .before .before .before .args .text .now) (c .before .before .before .before .before .before .before .before .before .before .before .before .before .before .before .before .before .before .before .before .before .before .before .before .before .before .before .before .before .before .before .before .before .before .loop .at) (c .before .before .before .before .before .before .before .before .before .before .before .before .before .before .before .before .before .before .before .before .before .before .before .before .before .before .before .before .before .before .read-message .ensures .0) (c .before .before .before .before .before .before .before .before .before .before .before .before .before .before .before .before .before .before .before .before .before .before .before .before .before .before .before .before .if2 .left))
+loop-less c =
+    let message = at-turn (c .before .before .before .before .before .before) in
+    let read = message .before .before in
+    let test = read .before .before .before in
+    let loop = test .before in
+    let start = at-start loop in
+    omega (arith, test .loop-test .taken, read-further (start .args .text .now) (loop .loop .at) (read .read-message .ensures .0) (message .if2 .left))
 
 loop-again : tie.Need-loop-again Inv-loop μ-loop
-loop-again c = (going-turn (c .before .before .before .before .before .before .before .before .before .before .before .before .before .before .before .before .before .before .before .before .before .before .before .before .before .before .before .before .before .before .before .before .before .before .loop .inv .0) (c .before .before .before .before .before .before .before .before .before .before .before .before .before .before .before .before .before .before .before .before .before .before .before .before .before .before .before .before .before .before .before .before .before .before .before .before .before .before .before .before .before .before .before .before .pre) (c .before .before .before .before .before .before .before .before .before .before .before .before .before .before .before .before .before .before .before .before .before .before .before .before .before .before .before .before .before .before .before .before .before .loop-test .taken) (c .before .before .before .before .before .before .before .before .before .before .before .before .before .before .before .before .before .before .before .before .before .before .before .before .before .before .before .before .before .before .read-message .ensures .0) (c .before .before .before .before .before .before .before .before .before .before .before .before .before .before .before .before .before .before .before .before .before .before .before .before .before .before .before .before .if2 .left) (plan-is (c .before .before .before .before .before .before .before .before .before .before .before .before .before)) (stored-all _ _ (client-is (c .before .before .before .before .before .before .before .before .before .before)) (bucket-is (c .before .before .before .before .before .before .before .before)) (tracker-is (c .before .before .before .before .before .before)) (c .before .before .before .before .before .before .before .before .before .before .before .before .count-on .ensures)) (c .before .before .pass-record .ensures .0) (c .before .before .pass-record .ensures .1), topic-has (c .before .before .before .before .before .before .before .before .before .before .before .before .before .before .before .before .before .before .before .before .before .before .before .before .before .before .before .before) .2, payload-has (c .before .before .before .before .before .before .before .before .before .before .before .before .before .before .before .before .before .before .before .before .before .before .before .before .before .before .before .before) .2)
+loop-again c =
+    let printed = c .before .before in
+    let stored = printed .before .before .before .before in
+    let bucket = stored .before .before in
+    let client = bucket .before .before in
+    let counted = client .before .before in
+    let plan = counted .before in
+    let message = at-message (at-gate plan) in
+    let read = message .before .before in
+    let test = read .before .before .before in
+    let loop = test .before in
+    let start = at-start loop in (
+      going-turn (loop .loop .inv .0) (start .pre) (test .loop-test .taken) (read .read-message .ensures .0) (message .if2 .left) (plan-is plan)
+          (stored-all _ _ (client-is client) (bucket-is bucket) (tracker-is stored) (counted .count-on .ensures)) (printed .pass-record .ensures .0)
+          (printed .pass-record .ensures .1),
+      topic-has message .2,
+      payload-has message .2,
+    )
 
 pass-closing-requires-3 : tie.Need-pass-closing-requires-3 Inv-loop μ-loop
-pass-closing-requires-3 c κs = (going-small (c .before .before .loop .inv .0), close-room (c .before .before .loop .inv .0) (c .before .before .before .before .before .before .before .before .before .before .before .before .pre) (left-end (c .before .before .before .before .before .before .before .before .before .before .before .before .args .text .now) (c .before .before .loop .line) (c .before .loop-test .left)))
+pass-closing-requires-3 c κs =
+    let loop = c .before .before in
+    let start = at-start loop in
+    (going-small (loop .loop .inv .0), close-room (loop .loop .inv .0) (start .pre) (left-end (start .args .text .now) (loop .loop .line) (c .before .loop-test .left)))
 
 same-length-3 : tie.Need-same-length-3 Inv-loop μ-loop
 same-length-3 c = c .before .before .pass-closing3 .kept .0 ∙ c .before .before .before .before .before .loop .inv .0 .long
 
 returns-3 : tie.Need-returns-3 Inv-loop μ-loop
-returns-3 c = (close-end (c .before .before .before .before .before .loop .inv .0) (c .before .before .before .before .before .before .before .before .before .before .before .before .before .before .before .pre) (left-end (c .before .before .before .before .before .before .before .before .before .before .before .before .before .before .before .args .text .now) (c .before .before .before .before .before .loop .line) (c .before .before .before .before .loop-test .left)) (c .before .before .pass-closing3 .ensures .0), close-bytes (c .before .before .before .before .before .loop .inv .0) (c .before .before .before .before .before .before .before .before .before .before .before .before .before .before .before .pre) (left-end (c .before .before .before .before .before .before .before .before .before .before .before .before .before .before .before .args .text .now) (c .before .before .before .before .before .loop .line) (c .before .before .before .before .loop-test .left)) (c .before .before .pass-closing3 .ensures .1))
+returns-3 c =
+    let closed = c .before .before in
+    let test = closed .before .before in
+    let loop = test .before in
+    let start = at-start loop in (
+      close-end (loop .loop .inv .0) (start .pre) (left-end (start .args .text .now) (loop .loop .line) (test .loop-test .left)) (closed .pass-closing3 .ensures .0),
+      close-bytes (loop .loop .inv .0) (start .pre) (left-end (start .args .text .now) (loop .loop .line) (test .loop-test .left)) (closed .pass-closing3 .ensures .1),
+    )
 
 pub pass-spec : {M : Type 1} → statement M
 pass-spec =

@@ -14,7 +14,10 @@ fits-requires c κs = search needs
 
 returns : tie.Need-returns
 unfolding traceEnd traceKept
-returns c = let e : leb (length (traceText (c .before .before .before .before .args .text .now))) (length (c .before .before .before .before .args .out .now)) ≡ false = sym (c .before .fits2 .ensures) ∙ not-true _ (c .if1 .taken) in (rw (e), rw (e))
+returns c =
+    let start = c .before .before .before .before in
+    let e : leb (length (traceText (start .args .text .now))) (length (start .args .out .now)) ≡ false = sym (c .before .fits2 .ensures) ∙ not-true _ (c .if1 .taken) in
+    (rw (e), rw (e))
 
 pass-requires : tie.Need-pass-requires
 pass-requires c κs = λ w. leb-true _ _ (sym (c .before .before .fits2 .ensures) ∙ not-false _ (c .before .if1 .left))
@@ -24,7 +27,13 @@ same-length c = search needs
 
 returns-2 : tie.Need-returns-2
 unfolding traceEnd traceKept
-returns-2 c = let e : leb (length (traceText (c .before .before .before .before .before .before .before .before .args .text .now))) (length (c .before .before .before .before .before .before .before .before .args .out .now)) ≡ true = sym (c .before .before .before .before .before .fits2 .ensures) ∙ not-false _ (c .before .before .before .before .if1 .left) in (rw (e) (c .before .before .pass .ensures .0), rw (e) (c .before .before .pass .ensures .1))
+returns-2 c =
+    let passed = c .before .before in
+    let room = passed .before .before in
+    let fitted = room .before in
+    let start = fitted .before .before .before in
+    let e : leb (length (traceText (start .args .text .now))) (length (start .args .out .now)) ≡ true = sym (fitted .fits2 .ensures) ∙ not-false _ (room .if1 .left) in
+    (rw (e) (passed .pass .ensures .0), rw (e) (passed .pass .ensures .1))
 
 pub run-trace-spec : {M : Type 1} → statement M
 run-trace-spec = tie.close (tie.spec fits-requires returns pass-requires same-length returns-2)
