@@ -116,8 +116,8 @@ textFrom m n (x ∷ xs) number line = recordText n (resultOf (planned m x)) ++ t
 unfoldable pub traceText : List ℕ → List ℕ
 traceText s = textFrom (loaded s .monitor) 1 (messagesOf s .sent) (messagesOf s .number) (messagesOf s .line)
 
--- room for what any trace prints: a message takes at least the 44 bytes of its keys and LFs, so 65,536 bytes are at most 1,489 messages, and each prints at most 528 bytes; the closing lines are
--- at most 109 (proofs/Bound.antt)
+-- room for what any trace prints, 12 bytes for each of 65,536: a message takes at least the 44 bytes of its keys and LFs and prints at most 528, which is 12 times
+-- as much; the closing lines are at most 109, less than 12 times the bytes of an opening (proofs/Bound.antt)
 abbrev pub enough : ℕ
 enough = 786432
 

@@ -281,14 +281,17 @@ qos-at-requires c κs = search needs
 
 cast-t43 : tie.Need-cast-t43
 cast-t43 c =
-    let after-topic = c .before .before .before .before .before .before .before .before .before .before .before .before in
+    let after-payload = c .before .before .before in
+    let after-size = after-payload .before .before .before .before .before in
+    let after-topic = after-size .before .before .before .before in
     let topic = after-topic .before .before in
     let h = hex-fits _ _ _ 128 (topic-is topic) (after-topic .if5 .left) in
     omega arith
 
 cast-t44 : tie.Need-cast-t44
 cast-t44 c =
-    let after-size = c .before .before .before .before .before .before .before .before .before in
+    let after-payload = c .before .before .before .before in
+    let after-size = after-payload .before .before .before .before .before in
     let size = after-size .before .before in
     let h = number-fits _ _ _ 0 65535 (size .number-field4 .ensures .0) (after-size .if6 .left) in
     omega arith

@@ -43,8 +43,9 @@ hex-line-len-requires : tie.Need-hex-line-len-requires
 hex-line-len-requires c κs = search needs
 
 typed : (c : tie.After-hex-line-len)
-    → let start = c .before .before .before .before .before .before .before .before .before .before .before .before in
-    Typed (start .args .alert)
+    → let kind = c .before .before .before .before .before in
+    let id = kind .before .before .before in
+    Typed (id .before .before .before .before .args .alert)
 typed c = record { id64 = search needs; kind32 = search needs; hash32 = search needs }
 
 sum : (c : tie.After-hex-line-len)
