@@ -63,8 +63,8 @@ differences() {
         { n = $2 - parts; a = ($3 - ours) / n; b = ($4 - theirs) / n; printf "| %s | %d | %d | %.2f |\n", $1, a, b, a / b }' "$room/counts"
 }
 
-# passes NAMES HOST WORDS...: each two rows are one, a buffer that takes one pass and one of exactly the answer's length, divided by the parts; beside it the Rust of
-# the same host built with --lto.
+# passes NAMES HOST WORDS...: each two rows are one, a buffer that takes one pass and one of exactly the answer's length, divided by the parts; beside it the
+# Rust of the same host built with --lto.
 passes() {
     names=$1 program=$2
     shift 2

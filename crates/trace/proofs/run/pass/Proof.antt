@@ -26,6 +26,26 @@ Inv-loop text out₀ write m₀ at₀ line₀ topic₀ payload₀ n₀ p₀ out 
 abbrev μ-loop : tie.MeasureT-loop
 μ-loop text out₀ write m₀ at₀ line₀ topic₀ payload₀ n₀ p₀ out m at line topic payload n p = length text - at
 
+-- the places behind a turn's end: its plan, its gate, the message that was read, the loop's head; and the function's start
+abbrev at-plan : tie.Joined5 Inv-loop μ-loop → tie.After-plan-from Inv-loop μ-loop
+at-plan c = c .before .before .before .before .before .before .before
+
+abbrev at-gate : tie.After-plan-from Inv-loop μ-loop → tie.After-gate-for Inv-loop μ-loop
+at-gate c = c .before .before .before .before .before .before .before .before .before
+
+abbrev at-message : tie.After-gate-for Inv-loop μ-loop → tie.Else2 Inv-loop μ-loop
+at-message c = c .before .before .before .before .before .before
+
+abbrev at-loop : tie.Else2 Inv-loop μ-loop → tie.At-loop Inv-loop μ-loop
+at-loop c = c .before .before .before .before .before .before
+
+abbrev at-start : tie.At-loop Inv-loop μ-loop → tie.Start Inv-loop μ-loop
+at-start c = c .before .before .before .before .before .before .before .before .before .before
+
+-- the message, seen from the turn's end
+abbrev at-turn : tie.After-slice-known4 Inv-loop μ-loop → tie.Else2 Inv-loop μ-loop
+at-turn c = at-message (at-gate (at-plan (c .before .before .before .before .before .before)))
+
 load-requires : tie.Need-load-requires Inv-loop μ-loop
 load-requires c κs = search needs
 
@@ -68,42 +88,26 @@ loop-holds c =
 read-message-requires : tie.Need-read-message-requires Inv-loop μ-loop
 read-message-requires c κs = search needs
 
+-- lines and messages are counted far below the largest number
+numbers-small : (c : tie.After-read-message Inv-loop μ-loop)
+    → let loop = c .before .before .before .before in
+    (loop .loop .line ≤ 65666) × (loop .loop .n ≤ 65536) × (c .read-message .result .line ≤ 6)
+numbers-small c =
+    let test = c .before .before .before in
+    let going = test .before .loop .inv .0 in (
+      omega (arith, going .lines, going .short, test .loop-test .taken),
+      omega (arith, going .ordinal, going .short, test .loop-test .taken),
+      c .read-message .ensures .1 .0 .line,
+    )
+
 add-pass-closing : tie.Need-add-pass-closing Inv-loop μ-loop
-add-pass-closing c =
-    let read = c .before .before .before in
-    let test = read .before .before .before in
-    let going = test .before .loop .inv .0 in omega (arith, going .lines, going .short, test .loop-test .taken, read .read-message .ensures .1 .0 .line)
+add-pass-closing c = omega (arith, numbers-small (c .before .before .before))
 
 cast-pass-closing : tie.Need-cast-pass-closing Inv-loop μ-loop
-cast-pass-closing c =
-    let read = c .before .before .before .before in
-    let test = read .before .before .before in
-    let going = test .before .loop .inv .0 in omega (arith, going .lines, going .short, test .loop-test .taken, read .read-message .ensures .1 .0 .line)
+cast-pass-closing c = omega (arith, numbers-small (c .before .before .before .before))
 
 add-pass-closing-2 : tie.Need-add-pass-closing-2 Inv-loop μ-loop
-add-pass-closing-2 c =
-    let read = c .before .before .before .before in
-    let test = read .before .before .before in
-    let going = test .before .loop .inv .0 in omega (arith, going .lines, going .short, test .loop-test .taken, read .read-message .ensures .1 .0 .line)
-
--- the places behind a turn's end: its plan, its gate, the message that was read, the loop's head; and the function's start
-abbrev at-plan : tie.Joined5 Inv-loop μ-loop → tie.After-plan-from Inv-loop μ-loop
-at-plan c = c .before .before .before .before .before .before .before
-
-abbrev at-gate : tie.After-plan-from Inv-loop μ-loop → tie.After-gate-for Inv-loop μ-loop
-at-gate c = c .before .before .before .before .before .before .before .before .before
-
-abbrev at-message : tie.After-gate-for Inv-loop μ-loop → tie.Else2 Inv-loop μ-loop
-at-message c = c .before .before .before .before .before .before
-
-abbrev at-turn : tie.Joined5 Inv-loop μ-loop → tie.Else2 Inv-loop μ-loop
-at-turn c = at-message (at-gate (at-plan c))
-
-abbrev at-head : tie.After-plan-from Inv-loop μ-loop → tie.At-loop Inv-loop μ-loop
-at-head c = at-message (at-gate c) .before .before .before .before .before .before
-
-abbrev at-start : tie.At-loop Inv-loop μ-loop → tie.Start Inv-loop μ-loop
-at-start c = c .before .before .before .before .before .before .before .before .before .before
+add-pass-closing-2 c = omega (arith, numbers-small (c .before .before .before .before))
 
 pass-closing-requires-2 : tie.Need-pass-closing-requires-2 Inv-loop μ-loop
 pass-closing-requires-2 c κs =
@@ -188,14 +192,10 @@ fed-for-requires : tie.Need-fed-for-requires Inv-loop μ-loop
 fed-for-requires c κs = search needs
 
 array-share-prefix-payload : tie.Need-array-share-prefix-payload Inv-loop μ-loop
-array-share-prefix-payload c =
-    let gate = c .before .before .before .before .before .before .before in
-    payload-has (at-message gate) .1
+array-share-prefix-payload c = payload-has (at-message (c .before .before .before .before .before .before .before)) .1
 
 slice-aggregate-plan-from : tie.Need-slice-aggregate-plan-from Inv-loop μ-loop
-slice-aggregate-plan-from c =
-    let gate = c .before .before .before .before .before .before .before .before in
-    sym (length-take-le _ _ (payload-has (at-message gate) .1))
+slice-aggregate-plan-from c = sym (length-take-le _ _ (payload-has (at-message (c .before .before .before .before .before .before .before .before)) .1))
 
 plan-from-requires : tie.Need-plan-from-requires Inv-loop μ-loop
 plan-from-requires c κs = search needs
@@ -223,7 +223,9 @@ element-set-from-tracker c = search needs
 
 -- its plan is that of the message sent
 plan-is : (c : tie.After-plan-from Inv-loop μ-loop)
-    → let loop = at-head c in
+    → let gate = at-gate c in
+    let message = at-message gate in
+    let loop = at-loop message in
     let start = at-start loop in
     c .plan-from .result ≡ planned (loop .loop .m) (sentAt (start .args .text .now) (loop .loop .at))
 plan-is c =
@@ -241,11 +243,11 @@ plan-is c =
 -- the state after each store, where the ways from its test meet
 client-is : (c : tie.Joined3 Inv-loop μ-loop)
     → let plan = c .before .before .before in
-    let loop = at-head plan in
+    let loop = at-loop (at-message (at-gate plan)) in
     c .if3 .m ≡ withClients (loop .loop .m) (storedAt 16 (loop .loop .m .«client_hashes») (plan .plan-from .result .seen .at) (plan .plan-from .result .seen .entry))
 client-is c =
     let plan = c .before .before .before in
-    let loop = at-head plan in
+    let loop = at-loop (at-message (at-gate plan)) in
     let m = loop .loop .m in
     let d = plan .plan-from .result .seen in
     ⊎-elim (λ w. stored-yes (withClients m) 16 (m .«client_hashes») (d .at) (d .entry) (w .0 .taken) (w .2))
@@ -277,7 +279,8 @@ tracker-is c =
 
 pass-record-requires : tie.Need-pass-record-requires Inv-loop μ-loop
 pass-record-requires c κs =
-    let plan = at-plan (c .before .before .before) in
+    let stored = c .before .before .before in
+    let plan = at-plan stored in
     let message = at-message (at-gate plan) in
     let read = message .before .before in
     let test = read .before .before .before in
@@ -288,20 +291,14 @@ pass-record-requires c κs =
     )
 
 add-line : tie.Need-add-line Inv-loop μ-loop
-add-line c =
-    let message = at-turn (c .before .before .before .before .before .before) in
-    let test = message .before .before .before .before .before in
-    let going = test .before .loop .inv .0 in omega (arith, going .lines, going .short, test .loop-test .taken)
+add-line c = omega (arith, numbers-small (at-turn c .before .before))
 
 add-n : tie.Need-add-n Inv-loop μ-loop
-add-n c =
-    let message = at-turn (c .before .before .before .before .before .before) in
-    let test = message .before .before .before .before .before in
-    let going = test .before .loop .inv .0 in omega (arith, going .ordinal, going .short, test .loop-test .taken)
+add-n c = omega (arith, numbers-small (at-turn c .before .before))
 
 loop-less : tie.Need-loop-less Inv-loop μ-loop
 loop-less c =
-    let message = at-turn (c .before .before .before .before .before .before) in
+    let message = at-turn c in
     let read = message .before .before in
     let test = read .before .before .before in
     let loop = test .before in
