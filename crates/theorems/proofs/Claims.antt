@@ -15,6 +15,7 @@ use Rattle.theorems.proofs.ShutOut.{shut-out}
 use Rattle.theorems.proofs.Slips.{slips}
 use Rattle.theorems.proofs.Tight.{tight}
 use Rattle.theorems.proofs.Upper.{upper}
+use Rattle.theorems.proofs.Witness.{witness}
 
 pub claims : Claims
 claims =
@@ -25,6 +26,7 @@ claims =
       met = tight;
       slips = slips;
       printed = printed-limits;
+      printed-met = witness;
       looped = loop-limits;
       sound = sound-always;
       denied = denied-by-kind;

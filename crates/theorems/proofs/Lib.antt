@@ -21,3 +21,4 @@ pub mod Slips
 pub mod Tight
 pub mod Turns
 pub mod Upper
+pub mod Witness

@@ -12,6 +12,7 @@ use Rattle.theorems.specs.Printed.{PrintedLimits, LoopLimits}
 use Rattle.theorems.specs.ShutOut.{ShutOut}
 use Rattle.theorems.specs.Slips.{Slips}
 use Rattle.theorems.specs.Tight.{Met, MetLater, Night}
+use Rattle.theorems.specs.Witness.{Witness}
 
 pub record Claims : Type 0 where
   -- DEMAND 3, of any fresh monitor and any run of inspections in order of time.
@@ -27,6 +28,8 @@ pub record Claims : Type 0 where
   pub slips : Slips
   -- WHAT IS PRINTED is what `inspect` answers, message by message, for every text; and demand 3 holds of it, for each topic of at most 32 bytes
   pub printed : PrintedLimits
+  -- a trace that prints `allowed=1` exactly as often as that lets it
+  pub printed-met : Witness
   -- so too of the loop that `bin/measure loop` runs
   pub looped : LoopLimits
   -- ONE INSPECTION AND MANY. Every state that calls hand out is sound, so number 10 is never met in one

@@ -7,3 +7,4 @@ pub mod Run
 pub mod ShutOut
 pub mod Slips
 pub mod Tight
+pub mod Witness
