@@ -35,7 +35,7 @@ _Static_assert(sizeof(size_t) == 8, "libhub.a is for x86-64: a length has 64 bit
 
 /* An `out` of so many bytes holds the answer to any trace, so hub_trace never gives 28 there (proved). So does one of 12
  * bytes for each byte of the text, if that is at least 109 (proved too). Either spares hub_trace the pass that counts,
- * and with it about half of its time. */
+ * which costs 0.7 to 1.0 times as much again (docs/MEASURED.md). */
 #define HUB_TRACE_ENOUGH 786432
 
 /* The two hashes that tell clients apart. */
