@@ -5,11 +5,11 @@ use mathlib.Core.List.{List}
 use lib.ListN.{drop}
 use native.Mathlib.Omega.{arith}
 use native.Mathlib.Numerals.{sub-one}
-use Rattle.lines.specs.Span.{placeOf}
+use Rattle.slices.specs.Bytes.{findByte}
 use Rattle.cut.specs.Args.{restOf}
 
 -- with a field passed there is one less to pass
-pub rest-turn : (k : ℕ) (q : List ℕ) → 0 < k → restOf (k - 1) (drop (placeOf 32 q 0 + 1) q) ≡ restOf k q
+pub rest-turn : (k : ℕ) (q : List ℕ) → 0 < k → restOf (k - 1) (drop (findByte 32 q 0 + 1) q) ≡ restOf k q
 unfolding restOf
 rest-turn zero q h = absurd (omega arith)
 rest-turn (suc k) q h = rw sub-one

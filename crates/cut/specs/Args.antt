@@ -6,8 +6,7 @@ use lib.ListN.{length, take, drop}
 use lib.Dec.{eqb, ltb}
 use Rattle.lines.specs.declared.value.Number.{Number}
 use Rattle.lines.specs.declared.value.Number.the-variants.{Value, Bad}
-use Rattle.lines.specs.Bytes.{bytes}
-use Rattle.lines.specs.Span.{placeOf}
+use Rattle.slices.specs.Bytes.{bytes, findByte}
 use Rattle.lines.specs.ReadDecimal.{decimalOf}
 use Rattle.lines.specs.ReadHex.{hexRefusal, hexCount}
 use Rattle.lines.specs.ReadWord.{wordOf}
@@ -16,11 +15,11 @@ use Rattle.cut.specs.declared.args.Bytes.{Bytes}
 -- what stands after the first `k` fields, each ended by a blank (32)
 unfoldable pub restOf : ℕ → List ℕ → List ℕ
 restOf zero q = q
-restOf (suc k) q = restOf k (drop (placeOf 32 q 0 + 1) q)
+restOf (suc k) q = restOf k (drop (findByte 32 q 0 + 1) q)
 
 -- the field at place `k`
 unfoldable pub fieldOf : ℕ → List ℕ → List ℕ
-fieldOf k q = take (placeOf 32 (restOf k q) 0) (restOf k q)
+fieldOf k q = take (findByte 32 (restOf k q) 0) (restOf k q)
 
 -- a number was spelled
 abbrev pub spelled : Number → Bool
@@ -28,21 +27,21 @@ spelled (Value n) = true
 spelled Bad = false
 
 -- the number that was spelled, 0 where none was
-abbrev pub valueOf : Number → ℕ
-valueOf (Value n) = n
-valueOf Bad = 0
+abbrev pub spelledOr0 : Number → ℕ
+spelledOr0 (Value n) = n
+spelledOr0 Bad = 0
 
 -- `s` is one of `words`, which has a bar between them
-unfoldable pub isOf : List ℕ → List ℕ → Bool
-isOf words s = spelled (wordOf words s)
+unfoldable pub isOneOf : List ℕ → List ℕ → Bool
+isOneOf words s = spelled (wordOf words s)
 
 -- the argument at place `k`: a field, and `-` for nothing
 unfoldable pub argOf : ℕ → List ℕ → List ℕ
-argOf k q = cond (isOf (bytes "-") (fieldOf k q)) [] (fieldOf k q)
+argOf k q = cond (isOneOf (bytes "-") (fieldOf k q)) [] (fieldOf k q)
 
 -- the number that it spells, of 64 bits
 unfoldable pub numberOf : ℕ → List ℕ → ℕ
-numberOf k q = valueOf (decimalOf 0 18446744073709551615 (argOf k q))
+numberOf k q = spelledOr0 (decimalOf 0 18446744073709551615 (argOf k q))
 
 -- it is 1
 abbrev pub flagOf : ℕ → List ℕ → Bool

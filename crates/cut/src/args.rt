@@ -4,7 +4,7 @@ ghost use Prim.Native.Nat.{_≤_};
 ghost use mathlib.Core.Path.{_≡_};
 ghost use lib.ListN.{length, take};
 ghost use Rattle.lines.specs.ReadHex.{hexInto};
-ghost use Rattle.cut.specs.Args.{restOf, fieldOf, isOf, argOf, numberOf, flagOf, sizeOf, bytesOf};
+ghost use Rattle.cut.specs.Args.{restOf, fieldOf, isOneOf, argOf, numberOf, flagOf, sizeOf, bytesOf};
 use crate::after;
 use crate::before;
 use crate::upto;
@@ -40,7 +40,7 @@ pub fn field(q: &[u8], k: usize) -> &[u8]
 
 // Whether `s` is a word of `words`, which has a bar between them.
 pub fn is(s: &[u8], words: &[u8]) -> bool
-    ensures { λ r. ⌜ r ≡ isOf (now (words .entry)) (now (s .entry)) ⌝ }
+    ensures { λ r. ⌜ r ≡ isOneOf (now (words .entry)) (now (s .entry)) ⌝ }
 {
     match value::word(words, s) {
         Number::Value(_) => true,

@@ -6,12 +6,12 @@ pub mod swap;
 ghost use Prim.Native.Nat.{_+_, _-_, _≤_};
 ghost use mathlib.Core.Path.{_≡_};
 ghost use lib.ListN.{length, take, drop};
-ghost use Rattle.lines.specs.Span.{placeOf};
+ghost use Rattle.slices.specs.Bytes.{findByte};
 use lines::held::find_byte;
 
 // What stands before the first `b`: all of `s` where there is none.
 pub fn before(s: &[u8], b: u8) -> &[u8]
-    ensures { λ r. ⌜ now r ≡ take (placeOf b (now (s .entry)) 0) (now (s .entry)) ⌝ }
+    ensures { λ r. ⌜ now r ≡ take (findByte b (now (s .entry)) 0) (now (s .entry)) ⌝ }
 {
     let to = find_byte(s, 0, b);
     &s[..to]
@@ -19,7 +19,7 @@ pub fn before(s: &[u8], b: u8) -> &[u8]
 
 // What stands after the first `b`: nothing where there is none. It is shorter than `s`, so that a loop over such parts ends.
 pub fn after(s: &[u8], b: u8) -> &[u8]
-    ensures { λ r. ⌜ now r ≡ drop (placeOf b (now (s .entry)) 0 + 1) (now (s .entry)) ⌝ }
+    ensures { λ r. ⌜ now r ≡ drop (findByte b (now (s .entry)) 0 + 1) (now (s .entry)) ⌝ }
     ensures shorter { λ r. ⌜ length (now r) ≤ length (now (s .entry)) - 1 ⌝ }
 {
     let to = find_byte(s, 0, b);

@@ -11,11 +11,11 @@ use lib.Seq.{append-snoc}
 use borrow.Author.Tests.{le-leb, leb-true, ne-eqb, eqb-false, not-true}
 use Rattle.lines.specs.declared.value.Number.the-variants.{Value, Bad}
 use Rattle.lines.specs.Decimal.{decimal}
-use Rattle.lines.specs.Every.{every}
+use Rattle.laws.specs.Lists.{every}
 use Rattle.lines.specs.ReadDecimal.{isDigit, withDigit, digitsAfter, noSpareZero, decimalOf}
-use Rattle.lines.proofs.Cases.{by, by-le}
-use Rattle.lines.proofs.TestLaws.{never, both}
-use Rattle.lines.proofs.EveryLaws.{every-both, every-last}
+use Rattle.laws.proofs.Cases.{by, by-le}
+use Rattle.laws.proofs.Tests.{never, both}
+use Rattle.laws.proofs.Every.{every-both, every-join}
 use Rattle.lines.proofs.DecimalLaws.{decimal-one, decimal-more, decimal-tenth, decimal-some}
 use Rattle.lines.proofs.ReadDecimalLaws.{spare-more}
 
@@ -52,10 +52,11 @@ spells-one n h =
     }
 
 spells-more : (n : ℕ) → 10 ≤ n → Spells (n / 10) → Spells n
+unfolding every
 spells-more n m s =
     let q : 0 < n / 10 = omega arith in
     record {
-      digits = rw (decimal-more n m) (every-last isDigit (decimal (n / 10)) (48 + n % 10) (s .digits) (digit-of (n % 10) (omega arith)));
+      digits = rw (decimal-more n m) (every-join isDigit (decimal (n / 10)) ((48 + n % 10) ∷ []) (s .digits) (rw (digit-of (n % 10) (omega arith))));
       number = rw (decimal-more n m, digits-last, s .number) (omega arith);
       first = λ z. rw (decimal-more n m, List·getD-append (decimal (n / 10)) ((48 + n % 10) ∷ []) 0 0 (decimal-some (n / 10))) (s .first q);
     }

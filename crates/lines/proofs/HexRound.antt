@@ -8,10 +8,10 @@ use native.Mathlib.Omega.{arith}
 use lib.ListN.{length, getD}
 use borrow.Author.Tests.{le-leb, lt-ltb, le-ltb}
 use Rattle.lines.specs.Hex.{hexDigit, hexText}
-use Rattle.lines.specs.Every.{every}
+use Rattle.laws.specs.Lists.{every}
 use Rattle.lines.specs.ReadHex.{isHex, hexValue, hexCount, hexRefusal, unhex}
-use Rattle.lines.proofs.Cases.{by-le}
-use Rattle.lines.proofs.EveryLaws.{every-both}
+use Rattle.laws.proofs.Cases.{by-le}
+use Rattle.laws.proofs.Every.{every-both}
 use Rattle.lines.proofs.HexLaws.{hex-length}
 use Rattle.lines.proofs.ReadHexLaws.{hex-kinds, hex-taken, hex-fits}
 

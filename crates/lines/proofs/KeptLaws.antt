@@ -9,7 +9,7 @@ use lib.Seq.{sets, sets-eq, length-sets, take-append-seam}
 use borrow.Author.Tests.{eqb-true, eqb-false}
 use Rattle.lines.specs.ReadHex.{hexCount, hexRefusal, unhex, hexInto}
 use Rattle.lines.specs.Field.{lineAt, valueOf, hexField, hexKept}
-use Rattle.lines.proofs.Cases.{by}
+use Rattle.laws.proofs.Cases.{by}
 use Rattle.lines.proofs.ReadHexLaws.{hex-taken}
 use Rattle.lines.proofs.HexRound.{unhex-length}
 

@@ -1,7 +1,5 @@
-pub mod Cases
 pub mod DecimalLaws
 pub mod DecimalRound
-pub mod EveryLaws
 pub mod FieldLaws
 pub mod HexLaws
 pub mod HexRound
@@ -12,7 +10,6 @@ pub mod ReadHexLaws
 pub mod ReadWordLaws
 pub mod Round
 pub mod SpanLaws
-pub mod TestLaws
 pub mod WordLaws
 pub mod WordRound
 pub mod WroteLaws

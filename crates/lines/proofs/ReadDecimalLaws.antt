@@ -8,12 +8,12 @@ use lib.Dec.{eqb, leb}
 use lib.ListN.{length, drop, getD, drop-of-length-le}
 use borrow.Author.Tests.{le-leb, lt-leb, leb-true, leb-false}
 use Rattle.lines.specs.declared.value.Number.the-variants.{Value, Bad}
-use Rattle.lines.specs.Every.{every}
+use Rattle.laws.specs.Lists.{every}
 use Rattle.lines.specs.ReadDecimal.{isDigit, withDigit, digitFits, digitsAfter, noSpareZero, decimalOf}
-use Rattle.lines.proofs.Cases.{by}
-use Rattle.lines.proofs.TestLaws.{never, both}
-use Rattle.lines.proofs.SpanLaws.{opened}
-use Rattle.lines.proofs.EveryLaws.{every-next, every-not, every-end}
+use Rattle.laws.proofs.Cases.{by}
+use Rattle.laws.proofs.Tests.{never, both}
+use Rattle.slices.proofs.bytes.WalkLaws.{opened}
+use Rattle.laws.proofs.Every.{every-on, every-off, every-end}
 
 module _ (v c high : ℕ) where
   -- the code's test, by a division, is the definition's, by a product
@@ -72,7 +72,7 @@ unfolding digitFits digitsAfter
 reading-next {l} {i} high r h e =
     let d : isDigit (getD l i 0) ≡ true = both _ _ e .0 in
     record {
-      digits = every-next isDigit l i h d ∙ r .digits;
+      digits = every-on isDigit l 0 i h d ∙ r .digits;
       number = rw (opened l i h) at (r .number);
     }
 
@@ -107,7 +107,7 @@ module _ (low high : ℕ) (l : List ℕ) where
         (let g : high < withDigit v (getD l i 0) = leb-false _ _ (rw d at e) in
         let n : digitsAfter (withDigit v (getD l i 0)) (drop (i + 1) l) ≡ digitsAfter 0 l = rw (opened l i h) at (r .number) in
         omega (arith, digits-grow (withDigit v (getD l i 0)) (drop (i + 1) l))))
-        (λ d. decimal-other (sym (r .digits) ∙ every-not isDigit l i h d))
+        (λ d. decimal-other (sym (r .digits) ∙ every-off isDigit l 0 i h d))
 
     -- all is read
     all-read : length l ≤ i → (every isDigit l ≡ true) × (digitsAfter 0 l ≡ v)

@@ -1,4 +1,4 @@
--- Laws of "begins with" and of words, for the loops that compare: what a definition says at one place, told by the next. Assumes nothing.
+-- Laws of words, for the loop that looks for one: what a definition says at one place, told by the next. Assumes nothing.
 use Prim.Native.Nat.{ℕ, suc, _+_, _-_, _≤_, _<_}
 use mathlib.Core.Path.{_≡_, refl, sym, ap}
 use mathlib.Core.Bool.{true, false}
@@ -10,52 +10,15 @@ use lib.ListN.{length, take, drop, getD, length-drop, drop-of-length-le}
 use lib.Seq.{drop-drop}
 use borrow.Author.Tests.{eq-eqb, ne-eqb, lt-ltb, le-ltb}
 use Rattle.lines.specs.declared.value.Number.the-variants.{Value, Bad}
-use Rattle.lines.specs.Span.{toByte, placeOf, part}
+use Rattle.slices.specs.Bytes.{same, toByte, findByte}
+use Rattle.lines.specs.Span.{part}
 use Rattle.lines.specs.Word.{firstWord, restWords, wordsOf}
-use Rattle.lines.specs.ReadWord.{begins, isWord, wordIndex, wordOf}
-use Rattle.lines.proofs.Cases.{by}
-use Rattle.lines.proofs.TestLaws.{never}
-use Rattle.lines.proofs.SpanLaws.{opened, place-within}
-
--- what begins with a key is as long as the key
-pub begins-fits : (key l : List ℕ) → begins key l ≡ true → length key ≤ length l
-unfolding begins
-begins-fits [] l e = omega arith
-begins-fits (k ∷ ks) [] e = never e
-begins-fits (k ∷ ks) (c ∷ cs) e =
-    by (eqb k c)
-    (λ t. omega (arith, begins-fits ks cs (rw (t, begins) at e)))
-    (λ t. never (rw (t, begins) at e))
-
--- so nothing shorter does
-pub begins-short : (key l : List ℕ) → length l < length key → begins key l ≡ false
-begins-short key l h =
-    by (begins key l) (λ t. absurd (let g = begins-fits key l t in omega arith)) (λ t. t)
-
-module _ (key l : List ℕ) (i : ℕ) where
-  -- where the bytes at a place agree, the rest decides
-  pub begins-next : i < length key → i < length l → getD l i 0 ≡ getD key i 0 → begins (drop (i + 1) key) (drop (i + 1) l) ≡ begins (drop i key) (drop i l)
-  unfolding begins
-  begins-next h g e = rw (opened key i h, opened l i g, eq-eqb _ _ (sym e), begins)
-
-  -- where they differ, that decides
-  pub begins-not : i < length key → i < length l → (getD l i 0 ≡ getD key i 0 → ⊥) → false ≡ begins (drop i key) (drop i l)
-  unfolding begins
-  begins-not h g e = rw (opened key i h, opened l i g, ne-eqb _ _ (λ q. e (sym q)), begins)
-
-  -- past the key's end nothing is left to compare
-  pub begins-end : length key ≤ i → true ≡ begins (drop i key) (drop i l)
-  unfolding begins
-  begins-end h = rw (drop-of-length-le key h)
-
--- the first word goes to the first bar
-first-to-bar : (l : List ℕ) → firstWord l ≡ take (toByte 124 l) l
-unfolding firstWord toByte
-first-to-bar [] = refl
-first-to-bar (c ∷ cs) =
-    by (eqb c 124)
-    (λ e. rw (e, firstWord, toByte))
-    (λ e. rw (e, firstWord, toByte) (ap (λ (t : List ℕ). c ∷ t) (first-to-bar cs)))
+use Rattle.lines.specs.ReadWord.{wordIndex, wordOf}
+use Rattle.laws.proofs.Cases.{by}
+use Rattle.lines.proofs.WordLaws.{first-to-bar}
+use Rattle.laws.proofs.Tests.{never}
+use Rattle.slices.proofs.bytes.WalkLaws.{opened}
+use Rattle.slices.proofs.bytes.PlaceLaws.{place-within}
 
 -- after a bar stand more words
 rest-after-bar : (l : List ℕ) → toByte 124 l < length l → restWords l ≡ wordsOf (drop (suc (toByte 124 l)) l)
@@ -75,14 +38,14 @@ rest-none (c ∷ cs) h =
     (λ e. absurd (let g = rw (e, toByte) at h in omega arith))
     (λ e. rw (e, restWords) (rest-none cs (let g = rw (e, toByte) at h in omega arith)))
 
-module _ (ws : List ℕ) {from to : ℕ} (h : from ≤ length ws) (e : to ≡ placeOf 124 ws from) where
+module _ (ws : List ℕ) {from to : ℕ} (h : from ≤ length ws) (e : to ≡ findByte 124 ws from) where
   -- a word lies in the list
   pub word-inside : (from ≤ to) × (to ≤ length ws)
   word-inside = rw e (let g = place-within 124 ws from in (omega arith, g .1))
 
   -- how far its bar is
   to-bar : to - from ≡ toByte 124 (drop from ws)
-  unfolding placeOf
+  unfolding findByte
   to-bar = omega arith
 
   -- the first of the words that are left goes to the bar
@@ -109,9 +72,9 @@ pub record Passed (ws l : List ℕ) (from k : ℕ) : Type 0 where
 pub passed-none : (ws l : List ℕ) → Passed ws l 0 0
 passed-none ws l = record { index = zero-add _; count = zero-add _ }
 
-module _ {ws l : List ℕ} {from to k : ℕ} (p : Passed ws l from k) (h : from ≤ length ws) (e : to ≡ placeOf 124 ws from) where
+module _ {ws l : List ℕ} {from to k : ℕ} (p : Passed ws l from k) (h : from ≤ length ws) (e : to ≡ findByte 124 ws from) where
   -- the word is `l`
-  pub word-found : isWord (part ws from to) l ≡ true → Value k ≡ wordOf ws l
+  pub word-found : same (part ws from to) l ≡ true → Value k ≡ wordOf ws l
   unfolding wordIndex wordOf
   word-found t =
       let i : k ≡ wordIndex (wordsOf ws) l = rw (word-here ws h e, t, wordIndex, add-zero) at (p .index) in
@@ -119,7 +82,7 @@ module _ {ws l : List ℕ} {from to k : ℕ} (p : Passed ws l from k) (h : from 
       rw (lt-ltb _ _ c, ← i)
 
   -- it is not, and there are others
-  pub word-next : isWord (part ws from to) l ≡ false → to < length ws → Passed ws l (to + 1) (k + 1)
+  pub word-next : same (part ws from to) l ≡ false → to < length ws → Passed ws l (to + 1) (k + 1)
   unfolding wordIndex
   word-next t g =
       let i : k + suc (wordIndex (wordsOf (drop (to + 1) ws)) l) ≡ wordIndex (wordsOf ws) l = rw (word-here ws h e, t, wordIndex, words-after ws h e g) at (p .index) in
@@ -127,7 +90,7 @@ module _ {ws l : List ℕ} {from to k : ℕ} (p : Passed ws l from k) (h : from 
       record { index = omega arith; count = omega arith }
 
   -- it is not, and there are no others
-  pub word-missing : isWord (part ws from to) l ≡ false → length ws ≤ to → Bad ≡ wordOf ws l
+  pub word-missing : same (part ws from to) l ≡ false → length ws ≤ to → Bad ≡ wordOf ws l
   unfolding wordIndex wordOf
   word-missing t g =
       let i : k + 1 ≡ wordIndex (wordsOf ws) l = rw (word-here ws h e, t, wordIndex, words-none ws h e g) at (p .index) in

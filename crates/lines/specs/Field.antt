@@ -9,10 +9,11 @@ use Rattle.lines.specs.declared.held.Span.{Span}
 use Rattle.lines.specs.declared.read.Field.{Field}
 use Rattle.lines.specs.declared.value.Number.{Number}
 use Rattle.lines.specs.declared.value.Number.the-variants.{Value, Bad}
-use Rattle.lines.specs.Span.{placeIn, spanOf, part}
+use Rattle.slices.specs.Bytes.{placeIn, begins}
+use Rattle.lines.specs.Span.{spanOf, part}
 use Rattle.lines.specs.ReadDecimal.{decimalOf}
 use Rattle.lines.specs.ReadHex.{hexCount, hexRefusal, hexInto}
-use Rattle.lines.specs.ReadWord.{begins, wordOf}
+use Rattle.lines.specs.ReadWord.{wordOf}
 
 -- a line refused: nothing was read, and every place is where the line begins
 abbrev pub refused : ℕ → ℕ → Field

@@ -1,6 +1,4 @@
-pub mod Bytes
 pub mod Decimal
-pub mod Every
 pub mod Field
 pub mod Hex
 pub mod Line

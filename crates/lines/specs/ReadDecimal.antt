@@ -6,7 +6,7 @@ use mathlib.Core.List.{List, [], _∷_}
 use lib.Dec.{eqb, leb}
 use Rattle.lines.specs.declared.value.Number.{Number}
 use Rattle.lines.specs.declared.value.Number.the-variants.{Value, Bad}
-use Rattle.lines.specs.Every.{every}
+use Rattle.laws.specs.Lists.{every}
 
 -- `0` to `9`
 unfoldable pub isDigit : ℕ → Bool

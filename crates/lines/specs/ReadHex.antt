@@ -5,7 +5,7 @@ use mathlib.Core.List.{List, [], _∷_}
 use lib.ListN.{length}
 use lib.Seq.{sets}
 use lib.Dec.{eqb, leb, ltb}
-use Rattle.lines.specs.Every.{every}
+use Rattle.laws.specs.Lists.{every}
 
 -- `0` to `9`, and `a` to `f`
 unfoldable pub isHex : ℕ → Bool

@@ -6,22 +6,13 @@ use lib.ListN.{length}
 use lib.Dec.{eqb, ltb}
 use Rattle.lines.specs.declared.value.Number.{Number}
 use Rattle.lines.specs.declared.value.Number.the-variants.{Value, Bad}
+use Rattle.slices.specs.Bytes.{same}
 use Rattle.lines.specs.Word.{wordsOf}
-
--- `l` begins with exactly the bytes of `key`
-unfoldable pub begins : List ℕ → List ℕ → Bool
-begins [] l = true
-begins (k ∷ ks) [] = false
-begins (k ∷ ks) (c ∷ cs) = elim (eqb k c) [ true ↦ begins ks cs | false ↦ false ]
-
--- `l` is the word `w`
-unfoldable pub isWord : List ℕ → List ℕ → Bool
-isWord w l = eqb (length w) (length l) && begins w l
 
 -- the place of the first word that `l` is, or the count of words where it is none
 unfoldable pub wordIndex : List (List ℕ) → List ℕ → ℕ
 wordIndex [] l = 0
-wordIndex (w ∷ ws) l = elim (isWord w l) [ true ↦ 0 | false ↦ suc (wordIndex ws l) ]
+wordIndex (w ∷ ws) l = elim (same w l) [ true ↦ 0 | false ↦ suc (wordIndex ws l) ]
 
 -- the place of the word `l` in the list `ws`, where it is one of them
 unfoldable pub wordOf : List ℕ → List ℕ → Number

@@ -1,8 +1,9 @@
 // The trace reader keeps the lent text and its place together (document 01, "The forms we use").
-// A line is found by `span_at`, on a plain slice; `next_line` hands it the reader's fields, and
+// A line is found by `span_at`, on a plain slice; `line_here` hands it the reader's fields, and
 // `span_from`, with plain parameters again, is what the readers of fields call.
+use slices::bytes::find_byte;
 ghost use mathlib.Core.Path.{_≡_};
-ghost use Rattle.lines.specs.Span.{placeOf, spanOf};
+ghost use Rattle.lines.specs.Span.{spanOf};
 
 // A text, lent, and a place in it.
 pub struct TraceReader<'a> {
@@ -15,20 +16,6 @@ pub struct Span {
     pub whole: bool,
     pub from: usize,
     pub to: usize,
-}
-
-// The place of the first `b` at or after `at`, or the text's end.
-pub fn find_byte(s: &[u8], at: usize, b: u8) -> usize
-    ensures { λ r. ⌜ r ≡ placeOf b (now (s .entry)) at ⌝ }
-{
-    let mut i = at;
-    while i < s.len() {
-        if s[i] == b {
-            return i;
-        }
-        i += 1;
-    }
-    s.len()
 }
 
 // The line at `at`.
@@ -59,7 +46,7 @@ pub fn new<'a>(text: &'a [u8], at: usize) -> TraceReader<'a>
 }
 
 // The line at the reader's place.
-pub fn next_line<'a>(r: TraceReader<'a>) -> Span
+pub fn line_here<'a>(r: TraceReader<'a>) -> Span
     ensures { λ s. ⌜ s ≡ spanOf (now (r .entry .text)) (r .entry .at) ⌝ }
 {
     span_at(r.text, r.at)
@@ -69,5 +56,5 @@ pub fn next_line<'a>(r: TraceReader<'a>) -> Span
 pub fn span_from(text: &[u8], at: usize) -> Span
     ensures { λ s. ⌜ s ≡ spanOf (now (text .entry)) at ⌝ }
 {
-    next_line(new(text, at))
+    line_here(new(text, at))
 }

@@ -7,6 +7,7 @@ ghost use Rattle.lines.specs.Field.{lineAt, numberField, wordField, hexF
 use crate::held;
 use crate::value;
 use crate::value::Number;
+use slices::bytes::starts_with;
 
 // What one line gave. number: 0 read, 26 no LF before the end, 21 wrong key, 22 bad number or range, 23 bad word,
 // 24 bad hex, 25 hex too long. from..to is the value's part of the text, and next is the place after the LF.
@@ -43,7 +44,7 @@ pub fn line_at(text: &[u8], at: usize, key: &[u8]) -> Field
     if !line.whole {
         return refused(26, from);
     }
-    if !value::starts_with(&text[from..to], key) {
+    if !starts_with(&text[from..to], key) {
         return refused(21, from);
     }
     Field {

@@ -5,33 +5,17 @@ ghost use mathlib.Core.Bool.{true};
 ghost use Prim.Native.Nat.{_<_};
 ghost use lib.ListN.{length};
 ghost use lib.Seq.{sets};
-ghost use Rattle.lines.specs.Every.{every};
+ghost use Rattle.laws.specs.Lists.{every};
 ghost use Rattle.lines.specs.ReadDecimal.{digitFits, noSpareZero, decimalOf};
 ghost use Rattle.lines.specs.ReadHex.{isHex, hexValue, hexRefusal, unhex, hexInto};
-ghost use Rattle.lines.specs.ReadWord.{begins, isWord, wordOf};
-use crate::held;
+ghost use Rattle.lines.specs.ReadWord.{wordOf};
+use slices::bytes::find_byte;
+use slices::bytes::same_bytes;
 
 // What a value's bytes gave: the number that they spell, or none.
 pub enum Number {
     Value(u64),
     Bad,
-}
-
-// Whether `l` begins with `key`.
-pub fn starts_with(l: &[u8], key: &[u8]) -> bool
-    ensures { λ r. ⌜ r ≡ begins (now (key .entry)) (now (l .entry)) ⌝ }
-{
-    if l.len() < key.len() {
-        return false;
-    }
-    let mut i = 0;
-    while i < key.len() {
-        if l[i] != key[i] {
-            return false;
-        }
-        i += 1;
-    }
-    true
 }
 
 // Whether `c` is a digit and the number with it, v * 10 + (c - 48), is at most `high`: without computing what could be too large.
@@ -87,16 +71,6 @@ pub fn decimal(l: &[u8], low: u64, high: u64) -> Number
     Number::Value(v)
 }
 
-// Whether `l` is the word `w`.
-fn is_word(w: &[u8], l: &[u8]) -> bool
-    ensures { λ r. ⌜ r ≡ isWord (now (w .entry)) (now (l .entry)) ⌝ }
-{
-    if w.len() != l.len() {
-        return false;
-    }
-    starts_with(l, w)
-}
-
 // The place of the word `l` in a list of words with a bar between them, `allow|block`: the first of equal words.
 pub fn word(words: &[u8], l: &[u8]) -> Number
     ensures { λ r. ⌜ r ≡ wordOf (now (words .entry)) (now (l .entry)) ⌝ }
@@ -104,8 +78,8 @@ pub fn word(words: &[u8], l: &[u8]) -> Number
     let mut from = 0;
     let mut k: u64 = 0;
     loop {
-        let to = held::find_byte(words, from, b'|');
-        if is_word(&words[from..to], l) {
+        let to = find_byte(words, from, b'|');
+        if same_bytes(&words[from..to], l) {
             return Number::Value(k);
         }
         if words.len() <= to {

@@ -1,5 +1,6 @@
 // Where a word stands in a list spelled with bars, b"allow|block". Shared by the writer of words and the length of what it writes.
-ghost use Prim.Native.Nat.{_+_, _≤_};
+use slices::bytes::find_byte;
+ghost use Prim.Native.Nat.{_≤_};
 ghost use mathlib.Core.Path.{_≡_};
 ghost use lib.ListN.{length, drop};
 ghost use Rattle.lines.specs.Word.{firstWord, wordText};
@@ -30,21 +31,6 @@ fn word_from(words: &[u8], k: usize) -> usize
     i
 }
 
-// The place of the first bar from `from` on, or the list's end.
-fn word_end(words: &[u8], from: usize) -> usize
-    requires { ⌜ from ≤ length (now words) ⌝ }
-    ensures { λ r. ⌜ (r ≡ from + length (firstWord (drop from (now (words .entry))))) × (r ≤ length (now (words .entry))) ⌝ }
-{
-    let mut i = from;
-    while i < words.len() {
-        if words[i] == b'|' {
-            return i;
-        }
-        i += 1;
-    }
-    i
-}
-
 // The part of the list that is the word at place `k`; an empty one where there are not so many words.
 pub fn word_part(words: &[u8], k: usize) -> Part
     ensures { λ r. ⌜ PartIs (now (words .entry)) (r .from) (r .to) (wordText (now (words .entry)) k) ⌝ }
@@ -52,6 +38,6 @@ pub fn word_part(words: &[u8], k: usize) -> Part
     let from = word_from(words, k);
     Part {
         from: from,
-        to: word_end(words, from),
+        to: find_byte(words, from, b'|'),
     }
 }

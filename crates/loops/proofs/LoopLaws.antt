@@ -10,23 +10,23 @@ use lib.Dec.{leb}
 use lib.ListN.{length, set, replicate}
 use borrow.Author.Tests.{lt-ltb, le-ltb, leb-true}
 use Rattle.topics.specs.Matching.{portMatches}
-use Rattle.lines.specs.Bytes.{bytes}
+use Rattle.slices.specs.Bytes.{bytes}
 use Rattle.lines.specs.Span.{part}
-use Rattle.lines.proofs.Cases.{by}
-use Rattle.tables.specs.Rules.{emptyRule}
+use Rattle.laws.proofs.Cases.{by}
+use Rattle.tables.specs.Rules.{emptyRule, rulePlan}
 use Rattle.tables.specs.declared.rules.MqttQoS.the-variants.{AtLeastOnce}
 use Rattle.tables.specs.declared.rules.QosPolicy.the-variants.{MinQoS}
 use Rattle.tables.specs.declared.rules.TopicAction.the-variants.{Allow, Block}
 use Rattle.tables.specs.declared.rules.TopicRule.{TopicRule}
 use Rattle.monitor.specs.Alerts.{counted}
-use Rattle.monitor.specs.Calls.{fresh, rulePlan}
+use Rattle.monitor.specs.Calls.{fresh}
 use Rattle.monitor.specs.Inspect.{applied}
 use Rattle.monitor.specs.Plan.{planOf}
 use Rattle.monitor.specs.Sound.{Sound}
 use Rattle.monitor.specs.State.{wellFormed, withRules}
 use Rattle.monitor.specs.declared.message.MqttMessage.{MqttMessage}
 use Rattle.monitor.specs.declared.plan.Plan.{Plan}
-use Rattle.monitor.specs.declared.rule_calls.RulePlan.{RulePlan}
+use Rattle.tables.specs.declared.rules.RulePlan.{RulePlan}
 use Rattle.monitor.specs.declared.state.MqttMonitor.{MqttMonitor}
 use Rattle.monitor.proofs.AddLaws.{add-takes, add-leaves}
 use Rattle.monitor.proofs.PlainLaws.{holding, no-rules, Plain, fresh-plain, add-plain, add-default}

@@ -7,7 +7,7 @@ use Prim.Native.Nat.{ℕ, zero, suc, _+_, _*_, _%_}
 use lib.Dec.{ltb, leb}
 use lib.ListN.{length}
 use Rattle.topics.specs.Matching.{portMatches}
-use Rattle.lines.specs.Bytes.{bytes}
+use Rattle.slices.specs.Bytes.{bytes}
 use Rattle.lines.specs.Span.{part}
 use Rattle.tables.specs.declared.rules.MqttQoS.the-variants.{AtLeastOnce}
 use Rattle.tables.specs.declared.rules.QosPolicy.the-variants.{MinQoS}

@@ -10,8 +10,8 @@ use native.Mathlib.Omega.{arith}
 use borrow.Author.Tests.{lt-ltb, ne-eqb, eqb-true, eqb-false}
 use lib.Dec.{eqb, ltb}
 use lib.ListN.{length, length-append}
-use Rattle.topics.proofs.ByteLaws.{by}
-use Rattle.topics.proofs.FoldLaws.{fold-keeps}
+use Rattle.laws.proofs.Cases.{by}
+use Rattle.laws.proofs.Folds.{fold-keeps}
 use Rattle.monitor.specs.Alerts.{severityOf, when, kindsOf, idAfter, counted, noneRaised, raise, raiseAll}
 use Rattle.monitor.specs.declared.alerts.AlertSeverity.the-variants.{Low, Medium, High}
 use Rattle.monitor.specs.declared.alerts.Findings.{Findings}

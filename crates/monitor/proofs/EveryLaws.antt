@@ -8,7 +8,7 @@ use native.Mathlib.Numerals.{add-one}
 use native.Mathlib.Omega.{arith}
 use lib.ListN.{length, take, drop, getD, length-take, drop-of-length-le}
 use lib.Seq.{drop-cons, getD-take}
-use Rattle.monitor.specs.State.{every}
+use Rattle.laws.specs.Lists.{every}
 
 module _ {A : Type 0} (p : A → Bool) (l : List A) (i : ℕ) (inv : every p (drop i l) ≡ every p l) where
   -- the record at `i` fails

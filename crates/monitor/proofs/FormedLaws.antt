@@ -8,12 +8,13 @@ use borrow.Author.Tests.{leb-true, le-leb}
 use lib.Dec.{leb}
 use lib.ListN.{length, take, getD, set, length-take}
 use lib.Seq.{getD-take}
-use Rattle.topics.proofs.BoolLaws.{both}
+use Rattle.laws.proofs.Tests.{both}
 use Rattle.tables.specs.Buckets.{bucketFine}
 use Rattle.tables.specs.Rules.{ruleFine}
 use Rattle.tables.specs.Trackers.{trackerFine}
 use Rattle.tables.specs.Windows.{windowFine}
-use Rattle.monitor.specs.State.{every, wellFormed}
+use Rattle.laws.specs.Lists.{every}
+use Rattle.monitor.specs.State.{wellFormed}
 use Rattle.monitor.specs.declared.state.MqttMonitor.{MqttMonitor}
 
 module _ {A : Type 0} (p : A → Bool) where

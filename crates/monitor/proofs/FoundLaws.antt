@@ -6,9 +6,9 @@ use mathlib.Core.Path.{_≡_, refl}
 use Prim.Native.Nat.{ℕ}
 use borrow.Author.Tests.{eqb-true}
 use lib.Dec.{eqb, ltb}
-use Rattle.topics.specs.Levels.{none}
+use Rattle.laws.specs.Lists.{none}
 use Rattle.topics.specs.Names.{isBroad, startsWithDollar, badPublish}
-use Rattle.topics.proofs.BoolLaws.{both}
+use Rattle.laws.proofs.Tests.{both}
 use Rattle.tables.specs.declared.buckets.RateCheckResult.{RateCheckResult}
 use Rattle.tables.specs.declared.buckets.RateCheckResult.the-variants.{Allowed, Limited, EvictedAndDenied}
 use Rattle.tables.specs.declared.buckets.RateDecision.{RateDecision}

@@ -10,7 +10,7 @@ use borrow.Author.Tests.{lt-ltb}
 use lib.Dec.{eqb, ltb}
 use lib.ListN.{length, take, length-set}
 use lib.Seq.{take-suc-set}
-use Rattle.topics.proofs.ByteLaws.{by}
+use Rattle.laws.proofs.Cases.{by}
 use Rattle.topics.specs.Payload.{payloadHash}
 use Rattle.monitor.specs.Alerts.{kindsOf, kindsAmong, alertOf, noneRaised, raise, raiseAll}
 use Rattle.monitor.specs.Inspect.{inspectRefusal, inspectWith}

@@ -7,9 +7,9 @@ use native.Mathlib.Omega.{arith}
 use borrow.Author.Tests.{le-ltb, lt-ltb}
 use lib.Dec.{eqb}
 use lib.ListN.{length, getD}
-use Rattle.topics.specs.Levels.{none}
+use Rattle.laws.specs.Lists.{none}
 use Rattle.topics.specs.Names.{isBroad, startsWithDollar}
-use Rattle.topics.proofs.BoolLaws.{both}
+use Rattle.laws.proofs.Tests.{both}
 use Rattle.tables.specs.Rules.{firstRule, noRule}
 use Rattle.tables.specs.declared.rules.TopicAction.{TopicAction}
 use Rattle.tables.specs.declared.rules.TopicRule.{TopicRule}

@@ -9,8 +9,8 @@ use borrow.Author.Tests.{ltb-true, ltb-false, le-leb}
 use lib.Dec.{eqb, leb, ltb}
 use lib.ListN.{length, take, getD, set}
 use lib.Seq.{set-out}
-use Rattle.topics.proofs.BoolLaws.{both}
-use Rattle.topics.proofs.ByteLaws.{by}
+use Rattle.laws.proofs.Tests.{both}
+use Rattle.laws.proofs.Cases.{by}
 use Rattle.topics.specs.declared.hashes.ClientHashes.{ClientHashes}
 use Rattle.tables.specs.Buckets.{bucketFine, decide, spend, noBucket, emptyBucket}
 use Rattle.tables.specs.Identity.{idOf}
@@ -26,10 +26,12 @@ use Rattle.tables.proofs.StepLaws.{bucketAt, stored, Step, hit, put, step}
 use Rattle.monitor.specs.Inspect.{storedAt, applied, inspectRefusal, inspectWith}
 use Rattle.monitor.specs.Message.{typeNumber, usedTopic, usedPayload}
 use Rattle.monitor.specs.Plan.{seenOf, spentOf, fedOf, gateIn, planFrom, planOf}
-use Rattle.monitor.specs.State.{every, wellFormed}
+use Rattle.laws.specs.Lists.{every}
+use Rattle.monitor.specs.State.{wellFormed}
 use Rattle.monitor.specs.declared.message.MqttMessage.{MqttMessage}
 use Rattle.monitor.specs.declared.state.MqttMonitor.{MqttMonitor}
-use Rattle.monitor.proofs.FormedLaws.{every-at, every-set, formed-parts, parts-formed}
+use Rattle.laws.proofs.Every.{every-at, every-set}
+use Rattle.monitor.proofs.FormedLaws.{formed-parts, parts-formed}
 
 module _ {A : Type 0} (p : A → Bool) where
   every-stored : (n : ℕ) (l : List A) (i : ℕ) (y : A) → every p l ≡ true → every p (set l i y) ≡ true → every p (storedAt n l i y) ≡ true

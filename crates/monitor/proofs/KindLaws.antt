@@ -7,8 +7,9 @@ use native.Mathlib.Omega.{arith}
 use borrow.Author.Tests.{ltb-false}
 use lib.Dec.{eqb, ltb}
 use lib.ListN.{replicate}
-use Rattle.topics.proofs.ByteLaws.{by}
-use Rattle.monitor.specs.Alerts.{when, kindsOf, denies, some, hashOf, raise, raiseAll}
+use Rattle.laws.proofs.Cases.{by}
+use Rattle.monitor.specs.Alerts.{when, kindsOf, denies, hashOf, raise, raiseAll}
+use Rattle.laws.specs.Lists.{some}
 use Rattle.monitor.specs.declared.alerts.Findings.{Findings}
 use Rattle.monitor.specs.declared.alerts.Raised.{Raised}
 

@@ -9,9 +9,9 @@ use borrow.Author.Tests.{ltb-false, eqb-true}
 use lib.Dec.{eqb, ltb}
 use lib.ListN.{length, take}
 use lib.Seq.{set-out}
-use Rattle.topics.specs.Levels.{none}
+use Rattle.laws.specs.Lists.{none}
 use Rattle.topics.specs.Names.{isBroad, startsWithDollar, badPublish}
-use Rattle.topics.proofs.ByteLaws.{by}
+use Rattle.laws.proofs.Cases.{by}
 use Rattle.tables.specs.Buckets.{decide}
 use Rattle.tables.specs.Identity.{idOf}
 use Rattle.tables.specs.declared.buckets.RateBucket.{RateBucket}

@@ -1,4 +1,4 @@
--- Two loops that copy elements into an array: a pattern's bytes into 64 zeros, and the rules after a removed one, each a place up. Assumes nothing.
+-- A loop that copies the rules after a removed one, each a place up. Assumes nothing.
 use mathlib.Core.List.{List, _∷_, _++_}
 use mathlib.Core.Path.{_≡_, ap}
 use Prim.Native.Nat.{ℕ, suc, _+_, _-_, _≤_, _<_}
@@ -6,11 +6,6 @@ use native.Mathlib.Numerals.{add-one}
 use native.Mathlib.Omega.{arith}
 use lib.ListN.{length, take, drop, getD, set, replicate, length-drop}
 use lib.Seq.{paste, paste-suc, length-paste-head, drop-cons, set-at, getD-drop, take-all}
-
--- bytes, zeros after them up to a size: all of them
-pub padded-done : (size : ℕ) (p : List ℕ) (i : ℕ) → length p ≤ size → i ≡ length p → take i p ++ replicate (size - i) 0 ≡ take size p ++ replicate (size - length p) 0
-padded-done size p i h e =
-    let z : size - i ≡ size - length p = omega arith in rw (z, take-all i p (omega arith), take-all size p h)
 
 -- the elements after a place, `i` of them moved up
 module _ {A : Type 0} (l : List A) (at i : ℕ) where

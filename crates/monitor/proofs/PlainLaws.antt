@@ -4,12 +4,12 @@ use mathlib.Core.Path.{_≡_, refl, ap}
 use Prim.Native.Nat.{ℕ}
 use lib.Dec.{eqb}
 use lib.ListN.{set, replicate}
-use Rattle.topics.proofs.ByteLaws.{by}
-use Rattle.tables.specs.Rules.{emptyRule}
+use Rattle.laws.proofs.Cases.{by}
+use Rattle.tables.specs.Rules.{emptyRule, rulePlan}
 use Rattle.tables.specs.declared.rules.QosPolicy.{QosPolicy}
 use Rattle.tables.specs.declared.rules.TopicAction.{TopicAction}
 use Rattle.tables.specs.declared.rules.TopicRule.{TopicRule}
-use Rattle.monitor.specs.Calls.{fresh, tested, rulePlan, addRule}
+use Rattle.monitor.specs.Calls.{fresh, tested, addRule}
 use Rattle.monitor.specs.State.{withRules}
 use Rattle.monitor.specs.declared.state.MqttMonitor.{MqttMonitor}
 

@@ -11,12 +11,12 @@ use lib.ListN.{length, take, set, replicate, length-take}
 use Rattle.topics.specs.Hashes.{clientHashes}
 use Rattle.topics.specs.Patterns.{patternRefusal}
 use Rattle.topics.specs.Payload.{payloadHash}
-use Rattle.topics.proofs.BoolLaws.{both}
-use Rattle.topics.proofs.ByteLaws.{by}
-use Rattle.topics.proofs.FoldLaws.{fold-keeps}
+use Rattle.laws.proofs.Tests.{both}
+use Rattle.laws.proofs.Cases.{by}
+use Rattle.laws.proofs.Folds.{fold-keeps}
 use Rattle.tables.specs.Buckets.{bucketFine, emptyBucket, removedBucket}
 use Rattle.tables.specs.Identity.{idOf}
-use Rattle.tables.specs.Rules.{equalRule, ruleFine, emptyRule, noRule}
+use Rattle.tables.specs.Rules.{equalRule, ruleFine, emptyRule, noRule, isHeld, rulePlan}
 use Rattle.tables.specs.Trackers.{trackerFine, emptyTracker, removedTracker}
 use Rattle.tables.specs.Windows.{windowFine, emptyWindow}
 use Rattle.tables.specs.declared.buckets.RateBucket.{RateBucket}
@@ -26,16 +26,18 @@ use Rattle.tables.specs.declared.rules.TopicRule.{TopicRule}
 use Rattle.tables.specs.declared.trackers.EwmaTracker.{EwmaTracker}
 use Rattle.tables.specs.declared.windows.ClientStormEntry.{ClientStormEntry}
 use Rattle.monitor.specs.Alerts.{idAfter, raise, raiseAll, kindsOf}
-use Rattle.monitor.specs.Calls.{fresh, tested, isHeld, rulePlan, withRule, addRule, removeRule, swapRules, clearRules, setStorm, removeBucket, removeTracker, resetState}
+use Rattle.monitor.specs.Calls.{fresh, tested, withRule, addRule, removeRule, swapRules, clearRules, setStorm, removeBucket, removeTracker, resetState}
 use Rattle.monitor.specs.Inspect.{storedAt, applied, inspectRefusal, inspectWith}
 use Rattle.monitor.specs.Message.{typeNumber, usedTopic, usedPayload}
 use Rattle.monitor.specs.Plan.{seenOf, spentOf, fedOf, gateIn, planFrom, planOf}
 use Rattle.monitor.specs.Sound.{SoundBuckets, SoundWindows, SoundTrackers, Sound}
-use Rattle.monitor.specs.State.{every, wellFormed, withRules, withSettings, withTables, withCounters, ended}
+use Rattle.laws.specs.Lists.{every}
+use Rattle.monitor.specs.State.{wellFormed, withRules, withSettings, withTables, withCounters, ended}
 use Rattle.monitor.specs.declared.alerts.Raised.{Raised}
 use Rattle.monitor.specs.declared.message.MqttMessage.{MqttMessage}
 use Rattle.monitor.specs.declared.state.MqttMonitor.{MqttMonitor}
-use Rattle.monitor.proofs.FormedLaws.{every-set, every-first, first-every, formed-parts, parts-formed}
+use Rattle.laws.proofs.Every.{every-set, every-first, first-every}
+use Rattle.monitor.proofs.FormedLaws.{formed-parts, parts-formed}
 use Rattle.monitor.proofs.KeptFormed.{kept-formed}
 use Rattle.monitor.proofs.SoundBuckets.{buckets-fresh, bucket-removed, buckets-after}
 use Rattle.monitor.proofs.SoundMoves.{rule-removed, rules-exchanged}

@@ -9,9 +9,9 @@ use borrow.Author.Tests.{eqb-true}
 use lib.Dec.{eqb}
 use lib.ListN.{length, take, replicate, length-append, length-take, length-replicate}
 use lib.Seq.{drop-at}
-use Rattle.topics.specs.Levels.{same}
-use Rattle.topics.proofs.BoolLaws.{both, fails}
-use Rattle.topics.proofs.SameLaws.{same-true}
+use Rattle.slices.specs.Bytes.{same}
+use Rattle.laws.proofs.Tests.{both, fails}
+use Rattle.slices.proofs.bytes.SameLaws.{same-true}
 use Rattle.tables.specs.Identity.{prefixOf, idOf, isOf}
 use Rattle.tables.specs.declared.identity.Id.{Id}
 use Rattle.tables.proofs.IdentityLaws.{is-of-refl}

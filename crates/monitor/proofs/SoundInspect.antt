@@ -10,8 +10,8 @@ use lib.Dec.{eqb, ltb}
 use lib.ListN.{length, take, length-take}
 use Rattle.topics.specs.Hashes.{clientHashes}
 use Rattle.topics.specs.Payload.{payloadHash}
-use Rattle.topics.proofs.ByteLaws.{by}
-use Rattle.topics.proofs.FoldLaws.{fold-keeps}
+use Rattle.laws.proofs.Cases.{by}
+use Rattle.laws.proofs.Folds.{fold-keeps}
 use Rattle.tables.specs.Identity.{idOf}
 use Rattle.monitor.specs.Alerts.{idAfter, noneRaised, raise, raiseAll, kindsOf}
 use Rattle.monitor.specs.Inspect.{storedAt, applied, inspectRefusal, inspectWith}

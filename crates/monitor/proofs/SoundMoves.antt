@@ -9,9 +9,9 @@ use borrow.Author.Tests.{ltb-true, ltb-false, eqb-true, eqb-false}
 use lib.Dec.{eqb, ltb}
 use lib.ListN.{length, getD, take, drop, set, replicate, length-append, length-take, length-drop, length-set, List·getD-append}
 use lib.Seq.{getD-take, getD-drop, getD-append-add, getD-set-same, getD-set-other}
-use Rattle.topics.specs.Levels.{same}
-use Rattle.topics.proofs.ByteLaws.{by}
-use Rattle.topics.proofs.SameLaws.{same-sym}
+use Rattle.slices.specs.Bytes.{same}
+use Rattle.laws.proofs.Cases.{by}
+use Rattle.slices.proofs.bytes.SameLaws.{same-sym}
 use Rattle.tables.specs.Rules.{patternOf, ruleFine, emptyRule, noRule}
 use Rattle.tables.specs.declared.rules.TopicRule.{TopicRule}
 use Rattle.monitor.specs.Calls.{without, exchanged}

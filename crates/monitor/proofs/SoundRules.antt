@@ -9,22 +9,21 @@ use borrow.Author.Tests.{ltb-true, ltb-false, eqb-true, eqb-false, le-leb, eq-eq
 use lib.Dec.{eqb, ltb}
 use lib.ListN.{length, getD, take, drop, set, replicate, length-append, length-take, length-drop, length-set, length-replicate, getD-replicate, List·getD-append}
 use lib.Seq.{take-at, take-all, drop-at, getD-take, getD-drop, getD-append-add}
-use Rattle.topics.specs.Levels.{same}
+use Rattle.slices.specs.Bytes.{same}
 use Rattle.topics.specs.Patterns.{patternRefusal}
-use Rattle.topics.proofs.ByteLaws.{by}
+use Rattle.laws.proofs.Cases.{by}
 use Rattle.topics.proofs.PatternLaws.{accepted-length}
-use Rattle.topics.proofs.SameLaws.{same-sym}
-use Rattle.tables.specs.Rules.{patternOf, ruleFine, equalRule, emptyRule, noRule}
+use Rattle.slices.proofs.bytes.SameLaws.{same-sym}
+use Rattle.tables.specs.Rules.{patternOf, ruleFine, equalRule, emptyRule, noRule, ruleOf, overwritten}
 use Rattle.tables.specs.Scan.{find}
 use Rattle.tables.specs.declared.rules.QosPolicy.{QosPolicy}
 use Rattle.tables.specs.declared.rules.TopicAction.{TopicAction}
 use Rattle.tables.specs.declared.rules.TopicRule.{TopicRule}
 use Rattle.tables.proofs.RuleLaws.{fine-says}
 use Rattle.tables.proofs.ScanLaws.{find-none}
-use Rattle.tables.proofs.StepLaws.{each}
-use Rattle.monitor.specs.Calls.{ruleOf, overwritten, without, exchanged}
+use Rattle.laws.proofs.Lists.{each, pairs}
+use Rattle.monitor.specs.Calls.{without, exchanged}
 use Rattle.monitor.specs.Sound.{SoundRules}
-use Rattle.monitor.proofs.StoreLaws.{pairs}
 
 -- the rule at a place
 abbrev at : List TopicRule → ℕ → TopicRule

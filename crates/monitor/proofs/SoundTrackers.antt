@@ -6,7 +6,7 @@ use mathlib.Core.Path.{_≡_, refl, sym, _∙_}
 use Prim.Native.Nat.{ℕ, _<_}
 use native.Mathlib.Omega.{arith}
 use lib.ListN.{length, getD, set, replicate, length-set, getD-replicate}
-use Rattle.topics.proofs.BoolLaws.{both}
+use Rattle.laws.proofs.Tests.{both}
 use Rattle.tables.specs.Identity.{idOf, isOf}
 use Rattle.tables.specs.Scan.{seat}
 use Rattle.tables.specs.Trackers.{holdsTracker, fed, freshTracker, feed, feedAt, noTracker, emptyTracker}
@@ -14,10 +14,10 @@ use Rattle.tables.specs.declared.trackers.EwmaTracker.{EwmaTracker}
 use Rattle.tables.specs.declared.trackers.TrackerDecision.{TrackerDecision}
 use Rattle.tables.proofs.ScanLaws.{seat-lt}
 use Rattle.tables.proofs.TrackerLaws.{isFree, lastUpdate}
-use Rattle.tables.proofs.StepLaws.{each}
+use Rattle.laws.proofs.Lists.{each, pairs}
 use Rattle.monitor.specs.Sound.{sameId, SoundId, SoundTrackers}
 use Rattle.monitor.proofs.SoundIds.{sound-id, new-first, new-last}
-use Rattle.monitor.proofs.StoreLaws.{pairs, looked-up}
+use Rattle.monitor.proofs.StoreLaws.{looked-up}
 
 -- two trackers are not both live with one identity
 abbrev Apart : EwmaTracker → EwmaTracker → Type 0

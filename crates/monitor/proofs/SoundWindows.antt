@@ -10,17 +10,17 @@ use lib.Dec.{eqb, ltb}
 use lib.ListN.{length, getD, drop, set, replicate, length-set, getD-replicate, drop-of-length-le}
 use lib.Seq.{drop-set-lt, drop-drop}
 use Rattle.topics.specs.declared.hashes.ClientHashes.{ClientHashes}
-use Rattle.topics.proofs.BoolLaws.{both, fails}
-use Rattle.topics.proofs.ByteLaws.{by}
+use Rattle.laws.proofs.Tests.{both, fails}
+use Rattle.laws.proofs.Cases.{by}
 use Rattle.tables.specs.Scan.{seat}
 use Rattle.tables.specs.Windows.{holdsClient, recorded, freshWindow, connect, connectAt, noWindow, emptyWindow}
 use Rattle.tables.specs.declared.windows.ClientStormEntry.{ClientStormEntry}
 use Rattle.tables.specs.declared.windows.ConnectDecision.{ConnectDecision}
 use Rattle.tables.proofs.ScanLaws.{seat-lt}
 use Rattle.tables.proofs.WindowLaws.{isFree, lastSeen}
-use Rattle.tables.proofs.StepLaws.{each}
+use Rattle.laws.proofs.Lists.{each, pairs}
 use Rattle.monitor.specs.Sound.{sameClient, SoundWindows}
-use Rattle.monitor.proofs.StoreLaws.{pairs, looked-up}
+use Rattle.monitor.proofs.StoreLaws.{looked-up}
 
 -- two windows are not both live with one client
 abbrev Apart : ClientStormEntry → ClientStormEntry → Type 0

@@ -8,11 +8,11 @@ use native.Mathlib.Omega.{arith}
 use borrow.Author.Tests.{ltb-true, ltb-false}
 use lib.Dec.{ltb}
 use lib.ListN.{length, getD, set}
-use Rattle.topics.proofs.ByteLaws.{by}
+use Rattle.laws.proofs.Cases.{by}
 use Rattle.tables.specs.Scan.{find}
 use Rattle.tables.proofs.LookupLaws.{heldOrNew}
 use Rattle.tables.proofs.ScanLaws.{find-lt, find-none}
-use Rattle.tables.proofs.StepLaws.{each}
+use Rattle.laws.proofs.Lists.{each}
 use Rattle.monitor.specs.Inspect.{storedAt}
 
 module _ {A : Type 0} (d : A) (T : List A) (k : ℕ) (x : A) (l : k < length T) where

@@ -16,7 +16,7 @@ use Rattle.tables.specs.declared.rules.QosPolicy.{QosPolicy}
 use Rattle.tables.specs.declared.rules.TopicAction.{TopicAction}
 use Rattle.tables.specs.declared.rules.TopicRule.{TopicRule}
 use Rattle.monitor.specs.State.{wellFormed, withRules, withSettings, withTables, withCounters, ended}
-use Rattle.monitor.specs.declared.rule_calls.RulePlan.{RulePlan}
+use Rattle.tables.specs.declared.rules.RulePlan.{RulePlan}
 use Rattle.monitor.specs.declared.state.Called.{Called}
 use Rattle.monitor.specs.declared.state.MqttMonitor.{MqttMonitor}
 use Rattle.monitor.specs.declared.state.Outcome.{Outcome}
@@ -42,52 +42,6 @@ fresh default =
 -- 10, or else a number
 abbrev pub tested : MqttMonitor → ℕ → ℕ
 tested m number = cond (wellFormed m) number 10
-
--- a rule as `add_rule` writes it: the pattern, zeros after it
-abbrev pub ruleOf : List ℕ → TopicAction → QosPolicy → ℕ → TopicRule
-ruleOf p action policy rate =
-    record {
-      pattern = take 64 p ++ replicate (64 - length p) 0;
-      «pattern_len» = length p;
-      action = action;
-      «qos_policy» = policy;
-      «max_rate_per_sec» = rate;
-      active = true;
-    }
-
--- a rule with the same pattern and other settings
-abbrev pub overwritten : TopicRule → TopicAction → QosPolicy → ℕ → TopicRule
-overwritten r action policy rate =
-    record {
-      pattern = r .pattern;
-      «pattern_len» = r .«pattern_len»;
-      action = action;
-      «qos_policy» = policy;
-      «max_rate_per_sec» = rate;
-      active = r .active;
-    }
-
--- an equal pattern is held: it stands at a place that counts, of which there are 32
-abbrev pub isHeld : List TopicRule → ℕ → List ℕ → Bool
-isHeld rules n p = ltb (equalRule p rules n) (min n 32)
-
--- a rule that a number refuses: it has no place, and the count is as given
-abbrev pub notTaken : ℕ → ℕ → RulePlan
-notTaken number n = record { number = number; at = 32; rule = emptyRule; count = n }
-
--- where a rule goes in a table of n rules: the pattern's own number, then an equal pattern is overwritten in place, then 6 where 32 are held; else the rule comes last
-unfoldable pub rulePlan : List TopicRule → ℕ → List ℕ → TopicAction → QosPolicy → ℕ → RulePlan
-rulePlan rules n p action policy rate =
-    cond (eqb (patternRefusal p) 0)
-    (cond (isHeld rules n p)
-    (record {
-      number = 0;
-      at = equalRule p rules n;
-      rule = overwritten (getD rules (equalRule p rules n) noRule) action policy rate;
-      count = n;
-    })
-    (cond (ltb n 32) (record { number = 0; at = n; rule = ruleOf p action policy rate; count = n + 1 }) (notTaken 6 n)))
-    (notTaken (patternRefusal p) n)
 
 -- the state with a rule where its plan says
 abbrev pub withRule : MqttMonitor → RulePlan → MqttMonitor

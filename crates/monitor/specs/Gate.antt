@@ -6,7 +6,7 @@ use mathlib.Core.List.{List}
 use Prim.Native.Nat.{ℕ, min}
 use lib.Dec.{eqb, ltb}
 use lib.ListN.{length, getD}
-use Rattle.topics.specs.Levels.{none}
+use Rattle.laws.specs.Lists.{none}
 use Rattle.topics.specs.Names.{isBroad, startsWithDollar, badPublish}
 use Rattle.tables.specs.Rules.{qosOk, firstRule, noRule}
 use Rattle.tables.specs.declared.rules.MqttQoS.{MqttQoS}

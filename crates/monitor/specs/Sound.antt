@@ -7,7 +7,7 @@ use mathlib.Core.List.{List}
 use Prim.Native.Nat.{ℕ, _+_, _-_, _≤_, _<_, min}
 use lib.Dec.{eqb}
 use lib.ListN.{length, getD, drop, replicate}
-use Rattle.topics.specs.Levels.{same}
+use Rattle.slices.specs.Bytes.{same}
 use Rattle.tables.specs.Buckets.{noBucket, emptyBucket}
 use Rattle.tables.specs.Rules.{patternOf, noRule, emptyRule}
 use Rattle.tables.specs.Trackers.{noTracker, emptyTracker}

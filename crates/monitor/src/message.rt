@@ -55,3 +55,52 @@ pub fn type_number(packet_type: MqttPacketType) -> u8
         MqttPacketType::Auth => 15,
     }
 }
+
+// The packet type of a number, 1 to 15.
+pub fn type_at(k: u64) -> MqttPacketType
+    ensures { λ r. ⌜ r ≡ typeAt k ⌝ }
+{
+    if k == 1 {
+        return MqttPacketType::Connect;
+    }
+    if k == 2 {
+        return MqttPacketType::ConnAck;
+    }
+    if k == 3 {
+        return MqttPacketType::Publish;
+    }
+    if k == 4 {
+        return MqttPacketType::PubAck;
+    }
+    if k == 5 {
+        return MqttPacketType::PubRec;
+    }
+    if k == 6 {
+        return MqttPacketType::PubRel;
+    }
+    if k == 7 {
+        return MqttPacketType::PubComp;
+    }
+    if k == 8 {
+        return MqttPacketType::Subscribe;
+    }
+    if k == 9 {
+        return MqttPacketType::SubAck;
+    }
+    if k == 10 {
+        return MqttPacketType::Unsubscribe;
+    }
+    if k == 11 {
+        return MqttPacketType::UnsubAck;
+    }
+    if k == 12 {
+        return MqttPacketType::PingReq;
+    }
+    if k == 13 {
+        return MqttPacketType::PingResp;
+    }
+    if k == 14 {
+        return MqttPacketType::Disconnect;
+    }
+    MqttPacketType::Auth
+}

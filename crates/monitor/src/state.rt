@@ -20,7 +20,8 @@ ghost use Rattle.tables.specs.Buckets.{bucketFine, emptyBucket};
 ghost use Rattle.tables.specs.Rules.{ruleFine, emptyRule};
 ghost use Rattle.tables.specs.Trackers.{trackerFine, emptyTracker};
 ghost use Rattle.tables.specs.Windows.{windowFine, emptyWindow};
-ghost use Rattle.monitor.specs.State.{every, wellFormed};
+ghost use Rattle.laws.specs.Lists.{every};
+ghost use Rattle.monitor.specs.State.{wellFormed};
 
 pub struct MqttMonitor {
     pub rules: [TopicRule; 32],

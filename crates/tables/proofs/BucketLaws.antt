@@ -7,10 +7,10 @@ use mathlib.Core.Path.{_≡_, refl, ap, subst}
 use Prim.Native.Nat.{ℕ, _+_, _-_, _*_, _<_, _≤_, min}
 use native.Mathlib.Nat.{sub-add-cancel, mul-le-mul-left, mul-le-mul-right}
 use native.Mathlib.Omega.{arith}
-use borrow.Author.Tests.{lt-ltb, ltb-true, ltb-false, eqb-true, eqb-false}
+use borrow.Author.Tests.{lt-ltb, le-leb, ltb-true, ltb-false, eqb-true, eqb-false}
 use lib.Dec.{eqb, ltb}
-use Rattle.topics.proofs.ByteLaws.{by}
-use Rattle.tables.specs.Buckets.{withTokens, refill, refilled, takeToken, spend, made}
+use Rattle.laws.proofs.Cases.{by}
+use Rattle.tables.specs.Buckets.{withTokens, refill, refilled, takeToken, spend, made, bucketFine}
 use Rattle.tables.specs.declared.identity.Id.{Id}
 use Rattle.tables.specs.declared.buckets.RateBucket.{RateBucket}
 use Rattle.tables.specs.declared.buckets.Spent.{Spent}
@@ -45,11 +45,12 @@ pub record Kept (t : ℕ) (b c : RateBucket) : Type 0 where
   pub live : c .active ≡ b .active
   pub id : c .id ≡ b .id
   pub cap : c .capacity ≡ b .capacity
+  pub full : b .tokens ≤ b .capacity → c .tokens ≤ c .capacity
   pub later : b .«last_refill_us» ≤ c .«last_refill_us»
   pub soon : b .«last_refill_us» ≤ t → c .«last_refill_us» ≤ t
 
 -- the three ways of a message: refilled and spent, spent without a refill, or denied
-pub data Way (b : RateBucket) (t : ℕ) : Spent → Type 0 where
+data Way (b : RateBucket) (t : ℕ) : Spent → Type 0 where
   filled : (k : ℕ) → 0 < refill b t → k ≡ min (b .tokens + refill b t) (b .capacity) → 0 < k → Way b t (record { ok = true; bucket = withTokens b (k - 1) t })
   taken : refill b t ≡ 0 → 0 < b .tokens → Way b t (record { ok = true; bucket = withTokens b (b .tokens - 1) (b .«last_refill_us») })
   none : refill b t ≡ 0 → b .tokens ≡ 0 → Way b t (record { ok = false; bucket = b })
@@ -63,7 +64,7 @@ module _ (b : RateBucket) (t : ℕ) where
       absurd (omega (arith, mul-le-mul-left (t - b .«last_refill_us») c)))
       (λ e. omega (arith, eqb-false (b .capacity) 0 e))
 
-  pub way : Way b t (spend b t)
+  way : Way b t (spend b t)
   unfolding spend refilled
   way = go (ltb 0 (refill b t)) refl
     where
@@ -121,15 +122,22 @@ wait g h = record { cap = g .cap; room = g .room; past = (let k = g .past in ome
 kept-by : (b : RateBucket) (t : ℕ) (s : Spent) → Way b t s → Kept t b (s .bucket)
 kept-by b t _ (filled k h e p) =
     by (ltb (b .«last_refill_us») t)
-    (λ l. record { live = refl; id = refl; cap = refl; later = (let g = ltb-true (b .«last_refill_us») t l in omega arith); soon = λ _. omega arith })
+    (λ l. record { live = refl; id = refl; cap = refl; full = λ h. omega arith; later = (let g = ltb-true (b .«last_refill_us») t l in omega arith); soon = λ _. omega arith })
     (λ l. let g = ltb-false (b .«last_refill_us») t l in
     let z : t - b .«last_refill_us» ≤ 0 = omega arith in
     absurd (omega (arith, mul-le-mul-right (b .capacity) z)))
-kept-by b t _ (taken h p) = record { live = refl; id = refl; cap = refl; later = omega arith; soon = λ k. k }
-kept-by b t _ (none h p) = record { live = refl; id = refl; cap = refl; later = omega arith; soon = λ k. k }
+kept-by b t _ (taken h p) = record { live = refl; id = refl; cap = refl; full = λ h. omega arith; later = omega arith; soon = λ k. k }
+kept-by b t _ (none h p) = record { live = refl; id = refl; cap = refl; full = λ h. omega arith; later = omega arith; soon = λ k. k }
 
 pub keeps : (b : RateBucket) (t : ℕ) → Kept t b (spend b t .bucket)
 keeps b t = kept-by b t (spend b t) (way b t)
+
+-- a message leaves a fine bucket fine, and one that is made of an identity with a fine prefix length is (number 10)
+pub fine-spent : (b : RateBucket) (t : ℕ) → bucketFine b ≡ true → bucketFine (spend b t .bucket) ≡ true
+fine-spent b t e = let k = keeps b t in rw (k .live, k .id) e
+
+pub fine-made : (id : Id) (rate tokens t : ℕ) → id .«prefix_len» ≤ 32 → bucketFine (made id rate tokens t) ≡ true
+fine-made id rate tokens t h = le-leb (id .«prefix_len») 32 h
 
 -- where the time since the message before is worth a token, the message is allowed
 pub earned : (R t last : ℕ) (b : RateBucket) → b .capacity ≡ R → b .«last_refill_us» ≤ last → 1000000 ≤ R * (t - last) → spend b t .ok ≡ true

@@ -1,9 +1,10 @@
 pub mod BucketLaws
 pub mod DecideLaws
 pub mod IdentityLaws
-pub mod LiveLaws
 pub mod LookupLaws
+pub mod NumberLaws
 pub mod PlaceLaws
+pub mod PlanLaws
 pub mod PrefixLaws
 pub mod RefillLaws
 pub mod RuleLaws

@@ -1,21 +1,16 @@
 -- Looking a record up in a table, whatever its records are: `f` at the place of the first that passes a test, else `f` at a newcomer's place `s` with the new
 -- record `w`. CONNECT windows and payload trackers are looked up so. Assumes nothing.
 use mathlib.Core.Path.{_≡_, refl, ap, _∙_}
-use mathlib.Core.Bool.{Bool, true, false, cond, _&&_}
+use mathlib.Core.Bool.{Bool, true, false, cond}
 use mathlib.Core.List.{List}
 use Prim.Native.Nat.{ℕ, _<_, _≤_}
 use native.Mathlib.Omega.{arith}
-use borrow.Author.Tests.{lt-ltb, le-ltb, ltb-true}
+use borrow.Author.Tests.{lt-ltb, le-ltb, ltb-true, ltb-false}
 use lib.Dec.{ltb}
 use lib.ListN.{length, getD}
-use Rattle.topics.proofs.ByteLaws.{by}
+use Rattle.laws.proofs.Cases.{choose}
 use Rattle.tables.specs.Scan.{find}
-use Rattle.tables.proofs.ScanLaws.{find-lt}
-
--- a record that has to be live and to pass a test: whatever passes is live
-pub live-first : (a b : Bool) → (a && b) ≡ true → a ≡ true
-live-first true b p = refl
-live-first false b p = p
+use Rattle.tables.proofs.ScanLaws.{find-lt, find-none}
 
 module _ {A D : Type 0} (p : A → Bool) (l : List A) (none : A) (f : ℕ → A → D) (s : ℕ) (w : A) where
   abbrev pub heldOrNew : D
@@ -30,9 +25,10 @@ module _ {A D : Type 0} (p : A → Bool) (l : List A) (none : A) (f : ℕ → A 
   new {i} {j} {x} e h es ew k =
       let le : length l ≤ find p l = omega arith in rw (le-ltb _ _ le) (k ∙ ap (λ (n : ℕ). f n x) es ∙ ap (f s) ew)
 
-  -- what is true of `f` at a place that passes, and of the newcomer, is true of the answer
-  pub either : (P : D → Type 0) → ((i : ℕ) → i < length l → p (getD l i none) ≡ true → P (f i (getD l i none))) → P (f s w) → P heldOrNew
-  either P a b =
-      by (ltb (find p l) (length l))
-      (λ e. rw e (a (find p l) (ltb-true _ _ e) (find-lt p l none (ltb-true _ _ e))))
-      (λ e. rw e b)
+  -- what is true of `f` at a place that passes, and of the newcomer where none passes, is true of the answer
+  pub looked-up : (P : D → Type 0) → ((i : ℕ) → i < length l → p (getD l i none) ≡ true → P (f i (getD l i none)))
+      → (((j : ℕ) → j < length l → p (getD l j none) ≡ false) → P (f s w)) → P heldOrNew
+  looked-up P a b =
+      choose P (ltb (find p l) (length l))
+      (λ e. a (find p l) (ltb-true _ _ e) (find-lt p l none (ltb-true _ _ e)))
+      (λ e. b (find-none p l none (ltb-false _ _ e)))

@@ -8,8 +8,8 @@ use native.Mathlib.Omega.{arith}
 use borrow.Author.Tests.{lt-ltb, le-ltb, ltb-true, ltb-false}
 use lib.Dec.{ltb}
 use lib.ListN.{length, getD}
-use Rattle.topics.proofs.ByteLaws.{by}
-use Rattle.tables.specs.Scan.{find, absent, least, leastOf, placeOf, any, seat}
+use Rattle.laws.proofs.Cases.{by}
+use Rattle.tables.specs.Scan.{find, absent, least, leastOf, leastPlace, any, seat}
 use Rattle.tables.specs.Buckets.{isExpired, made, noBucket, newcomer}
 use Rattle.tables.specs.declared.identity.Id.{Id}
 use Rattle.tables.specs.declared.buckets.RateBucket.{RateBucket}
@@ -50,10 +50,10 @@ unfolding isExpired
 least-expired t bs = least-passing timeOf (λ b. isExpired b t) (late t) (λ b. refl) (late-down t) bs
 
 -- the least of all 32 stands in the table
-pub oldest-lt : (bs : List RateBucket) {at : ℕ} → length bs ≡ 32 → at ≡ placeOf (leastOf timeOf any bs) → at < 32
+pub oldest-lt : (bs : List RateBucket) {at : ℕ} → length bs ≡ 32 → at ≡ leastPlace (leastOf timeOf any bs) → at < 32
 oldest-lt bs n e = let k = place-lt timeOf noBucket bs (omega arith) in omega arith
 
-module _ (bs : List RateBucket) (t : ℕ) {at : ℕ} (here : at ≡ placeOf (leastOf timeOf any bs)) (some : 0 < length bs) where
+module _ (bs : List RateBucket) (t : ℕ) {at : ℕ} (here : at ≡ leastPlace (leastOf timeOf any bs)) (some : 0 < length bs) where
   -- the least of all, with its place
   least-here : leastOf timeOf any bs ≡ least at (timeOf (getD bs at noBucket))
   least-here = rw here (least-at timeOf noBucket bs some)
@@ -73,7 +73,7 @@ module _ (bs : List RateBucket) (id : Id) (rate t : ℕ) where
   unfolding newcomer
   at-free e h = let g : find isFree bs < length bs = omega arith in rw (lt-ltb _ _ g, e)
 
-  module _ {i at : ℕ} (none : i ≡ find isFree bs) (full : length bs ≤ i) (here : at ≡ placeOf (leastOf timeOf any bs)) (some : 0 < length bs) where
+  module _ {i at : ℕ} (none : i ≡ find isFree bs) (full : length bs ≤ i) (here : at ≡ leastPlace (leastOf timeOf any bs)) (some : 0 < length bs) where
     pub at-expired : isExpired (getD bs at noBucket) t ≡ true → record { at = at; bucket = made id rate (rate - 1) t; result = Allowed } ≡ newcomer bs id rate t
     unfolding newcomer
     at-expired e = let g : length bs ≤ find isFree bs = omega arith in rw (le-ltb _ _ g, expired-here bs t here some e)
@@ -92,8 +92,8 @@ module _ (bs : List RateBucket) (id : Id) (rate t : ℕ) where
       sym (at-free refl h) ∙ (rw (← seat-free isFree timeOf bs refl h, find-lt isFree bs noBucket h)))
       (λ e.
       let h : length bs ≤ find isFree bs = ltb-false _ _ e in
-      let live = find-none isFree bs noBucket h (placeOf (leastOf timeOf any bs)) (place-lt timeOf noBucket bs some) in
+      let live = find-none isFree bs noBucket h (leastPlace (leastOf timeOf any bs)) (place-lt timeOf noBucket bs some) in
       let s = seat-least isFree timeOf bs refl h refl in
-      by (isExpired (getD bs (placeOf (leastOf timeOf any bs)) noBucket) t)
+      by (isExpired (getD bs (leastPlace (leastOf timeOf any bs)) noBucket) t)
       (λ x. sym (at-expired refl h refl some x) ∙ (rw (← s, live, x)))
       (λ x. sym (at-least refl h refl some x) ∙ (rw (← s, live, x))))

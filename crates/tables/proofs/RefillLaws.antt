@@ -6,7 +6,7 @@ use native.Mathlib.Nat.{mul-le-mul-left}
 use native.Mathlib.Omega.{arith}
 use borrow.Author.Tests.{lt-ltb, le-ltb, eqb-true, eqb-false}
 use lib.Dec.{eqb}
-use Rattle.topics.proofs.ByteLaws.{by}
+use Rattle.laws.proofs.Cases.{by}
 use Rattle.tables.specs.Buckets.{withTokens, refill, refilled}
 use Rattle.tables.specs.declared.buckets.RateBucket.{RateBucket}
 

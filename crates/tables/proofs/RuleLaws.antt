@@ -9,22 +9,15 @@ use borrow.Author.Tests.{lt-leb, le-leb, leb-true, leb-false, eqb-true, not-true
 use lib.Dec.{eqb, leb}
 use lib.ListN.{length, take, drop, getD, length-take}
 use lib.Seq.{take-all, getD-take}
-use Rattle.topics.specs.Levels.{same}
+use Rattle.slices.specs.Bytes.{same}
 use Rattle.topics.specs.Patterns.{patternRefusal}
-use Rattle.topics.proofs.BoolLaws.{both}
-use Rattle.topics.proofs.ByteLaws.{by}
-use Rattle.topics.proofs.SameLaws.{same-true}
+use Rattle.laws.proofs.Tests.{both}
+use Rattle.laws.proofs.Lists.{take-min}
+use Rattle.slices.proofs.bytes.SameLaws.{same-true}
 use Rattle.tables.specs.declared.rules.TopicRule.{TopicRule}
 use Rattle.tables.specs.Scan.{find}
 use Rattle.tables.specs.Rules.{patternOf, ruleFine, equalRule, firstRule, noRule}
 use Rattle.tables.proofs.ScanLaws.{find-here, find-next, find-done, find-le, find-lt}
-
--- a list's first bytes are no more than it has
-pub take-min : {A : Type 0} (n : ℕ) (l : List A) → take n l ≡ take (min n (length l)) l
-take-min n l =
-    by (leb n (length l))
-    (λ e. let h : min n (length l) ≡ n = omega (arith, leb-true) in rw h)
-    (λ e. let h : min n (length l) ≡ length l = omega (arith, leb-false) in rw (h, take-all n l (omega (arith, leb-false)), take-all (length l) l (omega arith)))
 
 module _ (r : TopicRule) where
   -- the bytes that the code lends are the rule's pattern

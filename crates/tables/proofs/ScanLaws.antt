@@ -11,8 +11,8 @@ use borrow.Author.Tests.{le-leb, lt-leb, lt-ltb, le-ltb, ltb-true, leb-true, leb
 use lib.Dec.{leb, ltb}
 use lib.ListN.{length, drop, getD, drop-of-length-le}
 use lib.Seq.{drop-cons}
-use Rattle.topics.proofs.ByteLaws.{by}
-use Rattle.tables.specs.Scan.{find, Least, absent, least, inFront, passed, leastOf, placeOf, any, seat}
+use Rattle.laws.proofs.Cases.{by}
+use Rattle.tables.specs.Scan.{find, Least, absent, least, inFront, passed, leastOf, leastPlace, any, seat}
 
 module _ {A : Type 0} (p : A → Bool) (l : List A) {i : ℕ} (d : A) where
   -- the record at a place passes: this is the first that does
@@ -34,14 +34,20 @@ module _ {A : Type 0} (p : A → Bool) (l : List A) {i : ℕ} where
   find-done h g inv =
       let z : find p (drop i l) ≡ 0 = rw (drop-of-length-le l {i = i} g) in omega arith
 
--- a loop that counts down from the table's end, `at` being the place of the least number `u` from `i` on
+-- a loop that counts down from the table's end: `at` is the first place of the least number `u` from `i` on
+pub record LeastFrom {A : Type 0} (f : A → ℕ) (l : List A) (at u i : ℕ) : Type 0 where
+  pub from : i ≤ at
+  pub inside : at < length l
+  pub found : leastOf f any (drop i l) ≡ least (at - i) u
+
 module _ {A : Type 0} (f : A → ℕ) (l : List A) (i : ℕ) (d : A) where
-  -- the last record alone
-  pub least-last : i + 1 ≡ length l → leastOf f any (drop i l) ≡ least (i - i) (f (getD l i d))
+  -- it begins with the last record
+  pub least-last : i + 1 ≡ length l → LeastFrom f l i (f (getD l i d)) i
   unfolding leastOf
   least-last h =
       let g : drop (suc i) l ≡ [] = drop-of-length-le l {i = suc i} (omega arith) in
-      let z : i - i ≡ 0 = omega arith in rw (z, drop-cons l i d (omega arith), g)
+      let z : i - i ≡ 0 = omega arith in
+      record { from = omega arith; inside = omega arith; found = rw (z, drop-cons l i d (omega arith), g) }
 
   one-more : 0 < i → i ≤ length l → leastOf f any (drop (i - 1) l) ≡ inFront (f (getD l (i - 1) d)) (leastOf f any (drop i l))
   unfolding leastOf
@@ -49,24 +55,28 @@ module _ {A : Type 0} (f : A → ℕ) (l : List A) (i : ℕ) (d : A) where
       let s : suc (i - 1) ≡ i = omega arith in
       rw (drop-cons l (i - 1) d (omega arith) ∙ ap (λ (k : ℕ). getD l (i - 1) d ∷ drop k l) s)
 
-  -- one record more in front, with a number that is no greater: it wins
-  pub least-front : {at u : ℕ} → 0 < i → i ≤ length l → leastOf f any (drop i l) ≡ least at u → f (getD l (i - 1) d) ≤ u
-      → leastOf f any (drop (i - 1) l) ≡ least (i - 1 - (i - 1)) (f (getD l (i - 1) d))
-  least-front z h inv e =
-      let o : i - 1 - (i - 1) ≡ 0 = omega arith in rw (one-more z h, inv, le-leb _ _ e, o)
+  module _ {at u : ℕ} (inv : LeastFrom f l at u i) (z : 0 < i) where
+    -- one record more in front, with a number that is no greater: it wins
+    pub least-front : f (getD l (i - 1) d) ≤ u → LeastFrom f l (i - 1) (f (getD l (i - 1) d)) (i - 1)
+    least-front e =
+        let a = inv .from in
+        let b = inv .inside in
+        let o : i - 1 - (i - 1) ≡ 0 = omega arith in
+        record { from = omega arith; inside = omega arith; found = rw (one-more z (omega arith), inv .found, le-leb _ _ e, o) }
 
-  -- with a greater one: the least stays
-  pub least-stays : {at u : ℕ} → 0 < i → i ≤ length l → i ≤ at → leastOf f any (drop i l) ≡ least (at - i) u → u < f (getD l (i - 1) d)
-      → leastOf f any (drop (i - 1) l) ≡ least (at - (i - 1)) u
-  least-stays {at} z h k inv e =
-      let o : at - (i - 1) ≡ suc (at - i) = omega arith in rw (one-more z h, inv, lt-leb _ _ e, o)
+    -- with a greater one: the least stays
+    pub least-stays : u < f (getD l (i - 1) d) → LeastFrom f l at u (i - 1)
+    least-stays e =
+        let a = inv .from in
+        let b = inv .inside in
+        let o : at - (i - 1) ≡ suc (at - i) = omega arith in
+        record { from = omega arith; inside = b; found = rw (one-more z (omega arith), inv .found, lt-leb _ _ e, o) }
 
 -- the place that such a loop ends with
-pub least-done : {A : Type 0} (f : A → ℕ) (l : List A) (i at : ℕ) {u : ℕ} → i ≤ 0 → leastOf f any (drop i l) ≡ least (at - i) u
-    → at ≡ placeOf (leastOf f any l)
-least-done f l i at {u} z inv =
+pub least-done : {A : Type 0} {f : A → ℕ} {l : List A} {at u i : ℕ} → LeastFrom f l at u i → i ≤ 0 → at ≡ leastPlace (leastOf f any l)
+least-done {f} {l} {at} {u} {i} inv z =
     let o : i ≡ 0 = omega arith in
-    let e : leastOf f any (drop 0 l) ≡ least (at - 0) u = rw o at inv in
+    let e : leastOf f any (drop 0 l) ≡ least (at - 0) u = rw o at (inv .found) in
     let g : at ≡ at - 0 = omega arith in rw e g
 
 -- what is true of the first place that passes
@@ -128,24 +138,24 @@ module _ {A : Type 0} (f : A → ℕ) (d : A) where
   least-is (x ∷ xs) = in-front x (least-is xs)
 
   -- the same of its place, in a table that has one
-  pub place-lt : (l : List A) → 0 < length l → placeOf (leastOf f any l) < length l
+  pub place-lt : (l : List A) → 0 < length l → leastPlace (leastOf f any l) < length l
   place-lt l h = go (least-is l) h
     where
-      go : {l : List A} {m : Least} → IsLeast f d l m → 0 < length l → placeOf m < length l
+      go : {l : List A} {m : Least} → IsLeast f d l m → 0 < length l → leastPlace m < length l
       go none h = absurd (omega arith)
       go (some k e g) h = k
 
-  pub place-least : (l : List A) (j : ℕ) → j < length l → f (getD l (placeOf (leastOf f any l)) d) ≤ f (getD l j d)
+  pub place-least : (l : List A) (j : ℕ) → j < length l → f (getD l (leastPlace (leastOf f any l)) d) ≤ f (getD l j d)
   place-least l j h = go (least-is l) h
     where
-      go : {l : List A} {m : Least} → IsLeast f d l m → j < length l → f (getD l (placeOf m) d) ≤ f (getD l j d)
+      go : {l : List A} {m : Least} → IsLeast f d l m → j < length l → f (getD l (leastPlace m) d) ≤ f (getD l j d)
       go none h = absurd (omega arith)
       go (some k e g) h = let r = g j h in omega arith
 
-  pub least-at : (l : List A) → 0 < length l → leastOf f any l ≡ least (placeOf (leastOf f any l)) (f (getD l (placeOf (leastOf f any l)) d))
+  pub least-at : (l : List A) → 0 < length l → leastOf f any l ≡ least (leastPlace (leastOf f any l)) (f (getD l (leastPlace (leastOf f any l)) d))
   least-at l h = go (least-is l) h
     where
-      go : {l : List A} {m : Least} → IsLeast f d l m → 0 < length l → m ≡ least (placeOf m) (f (getD l (placeOf m) d))
+      go : {l : List A} {m : Least} → IsLeast f d l m → 0 < length l → m ≡ least (leastPlace m) (f (getD l (leastPlace m) d))
       go none h = absurd (omega arith)
       go (some {l} {at} {u} k e g) h = ap (least at) e
 
@@ -182,7 +192,7 @@ module _ {A : Type 0} (free : A → Bool) (f : A → ℕ) (l : List A) where
   unfolding seat
   seat-free e h = let g : find free l < length l = omega arith in rw (lt-ltb _ _ g) e
 
-  pub seat-least : {i k : ℕ} → i ≡ find free l → length l ≤ i → k ≡ placeOf (leastOf f any l) → k ≡ seat free f l
+  pub seat-least : {i k : ℕ} → i ≡ find free l → length l ≤ i → k ≡ leastPlace (leastOf f any l) → k ≡ seat free f l
   unfolding seat
   seat-least e h m = let g : length l ≤ find free l = omega arith in rw (le-ltb _ _ g) m
 

@@ -9,7 +9,7 @@ use native.Mathlib.Omega.{arith}
 use lib.ListN.{length, take, drop, getD, length-take, drop-of-length-le}
 use lib.Seq.{drop-cons, take-suc, getD-take, length-take-le}
 use Rattle.topics.specs.Matching.{portMatches}
-use Rattle.topics.proofs.ByteLaws.{by}
+use Rattle.laws.proofs.Cases.{by}
 use Rattle.tables.specs.declared.rules.TopicRule.{TopicRule}
 use Rattle.tables.specs.Rules.{patternOf, covered, shadowedAfter, shadowCount, noRule}
 

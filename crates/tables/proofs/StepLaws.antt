@@ -9,9 +9,9 @@ use borrow.Author.Tests.{ltb-true, ltb-false, not-true, not-false, eqb-true, eqb
 use lib.Dec.{eqb, ltb}
 use lib.ListN.{length, getD, set, List·getD-eq-default}
 use lib.Seq.{getD-set-same, getD-set-other}
-use Rattle.topics.proofs.ByteLaws.{by}
+use Rattle.laws.proofs.Cases.{by}
 use Rattle.tables.specs.Buckets.{noBucket, isExpired, holdsBucket, spend, made, newcomer, decide}
-use Rattle.tables.specs.Scan.{find, leastOf, placeOf, any}
+use Rattle.tables.specs.Scan.{find, leastOf, leastPlace, any}
 use Rattle.tables.specs.declared.identity.Id.{Id}
 use Rattle.tables.specs.declared.buckets.RateBucket.{RateBucket}
 use Rattle.tables.specs.declared.buckets.RateDecision.{RateDecision}
@@ -99,7 +99,7 @@ module _ (T : List RateBucket) (id : Id) (rate t : ℕ) (some : 0 < length T) (a
       (put-seat (find isFree T) (rw a) l (free a (λ j h. not-false _ (find-before isFree T noBucket j h)))))
       (λ e.
       let l : length T ≤ find isFree T = ltb-false _ _ e in
-      let i : ℕ = placeOf (leastOf timeOf any T) in
+      let i : ℕ = leastPlace (leastOf timeOf any T) in
       let live : (j : ℕ) → j < length T → bucketAt T j .active ≡ true = λ j h. not-false _ (find-none isFree T noBucket l j h) in
       let here = place-lt timeOf noBucket T some in
       rw (← seat-least isFree timeOf T refl l refl)
@@ -120,11 +120,3 @@ step T id rate t some =
 pub expired : (b : RateBucket) (t : ℕ) → isExpired b t ≡ true → timeOf b + 300000000 < t
 unfolding isExpired
 expired b t e = omega (arith, ltb-true 300000000 (t - timeOf b) e)
-
--- a fact of every place after a store, whatever the table's records are: it holds of the new one, and held of the others; `d` is what is read past the end
-module _ {A : Type 0} (d : A) (T : List A) (i : ℕ) (x : A) (l : i < length T) where
-  pub each : (P : ℕ → A → Type 0) → P i x → ((j : ℕ) → (j ≡ i → ⊥) → P j (getD T j d)) → (j : ℕ) → P j (getD (set T i x) j d)
-  each P p q j =
-      by (eqb j i)
-      (λ e. let k : j ≡ i = eqb-true j i e in rw (k, getD-set-same T i x d l) p)
-      (λ e. let n : j ≡ i → ⊥ = eqb-false j i e in rw (getD-set-other T i j x d n) (q j n))

@@ -13,7 +13,8 @@ use Rattle.tables.specs.Identity.{isRemoved}
 use Rattle.tables.specs.Scan.{find, seat}
 use Rattle.tables.specs.Trackers.{fed, freshTracker, holdsTracker, noTracker, feedAt, feed, trackerFine}
 use Rattle.tables.proofs.ScanLaws.{seat-lt}
-use Rattle.tables.proofs.LookupLaws.{held, new, either, live-first}
+use Rattle.laws.proofs.Tests.{both}
+use Rattle.tables.proofs.LookupLaws.{held, new, looked-up}
 
 -- what a newcomer's place is chosen by: a free one, else the least update time
 abbrev pub isFree : EwmaTracker → Bool
@@ -44,7 +45,7 @@ module _ (ks : List EwmaTracker) (id : Id) (size t : ℕ) where
   feed-either : (P : TrackerDecision → Type 0) → ((i : ℕ) → i < length ks → holdsTracker id (getD ks i noTracker) ≡ true → P (at i (getD ks i noTracker)))
       → P (at (seat isFree lastUpdate ks) (freshTracker id)) → P (feed ks id size t)
   unfolding feed
-  feed-either = either (holdsTracker id) ks noTracker at (seat isFree lastUpdate ks) (freshTracker id)
+  feed-either = λ P a b. looked-up (holdsTracker id) ks noTracker at (seat isFree lastUpdate ks) (freshTracker id) P a (λ _. b)
 
   -- the place is one of the table's
   pub feed-lt : 0 < length ks → feed ks id size t .at < length ks
@@ -53,7 +54,7 @@ module _ (ks : List EwmaTracker) (id : Id) (size t : ℕ) where
   -- the tracker handed back is live
   pub feed-live : feed ks id size t .tracker .active ≡ true
   unfolding fed holdsTracker
-  feed-live = feed-either (λ d. d .tracker .active ≡ true) (λ i l e. live-first _ _ e) refl
+  feed-live = feed-either (λ d. d .tracker .active ≡ true) (λ i l e. both _ _ e .0) refl
 
   -- and fine, if all of the table's are and the topic's prefix length is at most 32
   pub feed-fine : ((j : ℕ) → j < length ks → trackerFine (getD ks j noTracker) ≡ true) → id .«prefix_len» ≤ 32

@@ -16,7 +16,8 @@ use Rattle.tables.specs.declared.windows.ConnectDecision.{ConnectDecisio
 use Rattle.tables.specs.Scan.{find, seat}
 use Rattle.tables.specs.Windows.{freshWindow, recorded, countFrom, inWindow, holdsClient, noWindow, connectAt, connect, windowFine}
 use Rattle.tables.proofs.ScanLaws.{seat-lt}
-use Rattle.tables.proofs.LookupLaws.{held, new, either, live-first}
+use Rattle.laws.proofs.Tests.{both}
+use Rattle.tables.proofs.LookupLaws.{held, new, looked-up}
 
 -- what a newcomer's place is chosen by: a free one, else the least last-seen
 abbrev pub isFree : ClientStormEntry → Bool
@@ -81,7 +82,7 @@ module _ (h : ClientHashes) (e : ClientStormEntry) where
 -- a client's window is live
 holds-live : (h : ClientHashes) (e : ClientStormEntry) → holdsClient h e ≡ true → e .active ≡ true
 unfolding holdsClient
-holds-live h e p = live-first _ (eqb (e .«client_hash») (h .hash)) (live-first _ (eqb (e .«client_hash2») (h .hash2)) p)
+holds-live h e p = both _ (eqb (e .«client_hash») (h .hash)) (both _ (eqb (e .«client_hash2») (h .hash2)) p .0) .0
 
 -- recording keeps a window fine: the count stops at 16
 pub recorded-fine : (e : ClientStormEntry) (t : ℕ) → windowFine e ≡ true → windowFine (recorded e t) ≡ true
@@ -112,7 +113,7 @@ module _ (cs : List ClientStormEntry) (h : ClientHashes) (t threshold window : �
   connect-either : (P : ConnectDecision → Type 0) → ((i : ℕ) → i < length cs → holdsClient h (getD cs i noWindow) ≡ true → P (at i (getD cs i noWindow)))
       → P (at (seat isFree lastSeen cs) (freshWindow h)) → P (connect cs h t threshold window)
   unfolding connect
-  connect-either = either (holdsClient h) cs noWindow at (seat isFree lastSeen cs) (freshWindow h)
+  connect-either = λ P a b. looked-up (holdsClient h) cs noWindow at (seat isFree lastSeen cs) (freshWindow h) P a (λ _. b)
 
   -- the place is one of the table's
   pub connect-lt : 0 < length cs → connect cs h t threshold window .at < length cs

@@ -7,7 +7,7 @@ use Prim.Native.Nat.{ℕ, _+_, _-_, _*_, _/_, min}
 use lib.Dec.{leb, ltb}
 use lib.ListN.{length, getD}
 use Rattle.tables.specs.Identity.{isOf, isRemoved, noId, emptyId}
-use Rattle.tables.specs.Scan.{find, leastOf, placeOf, isThere, any}
+use Rattle.tables.specs.Scan.{find, leastOf, leastPlace, isThere, any}
 use Rattle.tables.specs.declared.identity.Id.{Id}
 use Rattle.tables.specs.declared.buckets.RateBucket.{RateBucket}
 use Rattle.tables.specs.declared.buckets.Spent.{Spent}
@@ -65,8 +65,8 @@ newcomer bs id rate t =
     cond (ltb (find (λ b. not (b .active)) bs) (length bs))
     (record { at = find (λ b. not (b .active)) bs; bucket = made id rate (rate - 1) t; result = Allowed })
     (cond (isThere (leastOf (λ b. b .«last_refill_us») (λ b. isExpired b t) bs))
-    (record { at = placeOf (leastOf (λ b. b .«last_refill_us») (λ b. isExpired b t) bs); bucket = made id rate (rate - 1) t; result = Allowed })
-    (record { at = placeOf (leastOf (λ b. b .«last_refill_us») any bs); bucket = made id rate 0 t; result = EvictedAndDenied }))
+    (record { at = leastPlace (leastOf (λ b. b .«last_refill_us») (λ b. isExpired b t) bs); bucket = made id rate (rate - 1) t; result = Allowed })
+    (record { at = leastPlace (leastOf (λ b. b .«last_refill_us») any bs); bucket = made id rate 0 t; result = EvictedAndDenied }))
 
 -- what the limiter decides on a message of an identity under a rate
 unfoldable pub decide : List RateBucket → Id → ℕ → ℕ → RateDecision

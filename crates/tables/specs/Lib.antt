@@ -1,5 +1,6 @@
 pub mod Buckets
 pub mod Identity
+pub mod Numbers
 pub mod Rules
 pub mod Scan
 pub mod Trackers

@@ -33,9 +33,9 @@ leastOf f p [] = absent
 leastOf f p (x ∷ xs) = cond (p x) (inFront (f x) (leastOf f p xs)) (passed (leastOf f p xs))
 
 -- the place of the least, 0 where there is none
-abbrev pub placeOf : Least → ℕ
-placeOf absent = 0
-placeOf (least at u) = at
+abbrev pub leastPlace : Least → ℕ
+leastPlace absent = 0
+leastPlace (least at u) = at
 
 -- whether there is one
 abbrev pub isThere : Least → Bool
@@ -48,4 +48,4 @@ any x = true
 
 -- a place for a newcomer: the first free one, else the one with the least number
 unfoldable pub seat : {A : Type 0} → (A → Bool) → (A → ℕ) → List A → ℕ
-seat free f xs = cond (ltb (find free xs) (length xs)) (find free xs) (placeOf (leastOf f any xs))
+seat free f xs = cond (ltb (find free xs) (length xs)) (find free xs) (leastPlace (leastOf f any xs))

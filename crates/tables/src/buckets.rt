@@ -1,12 +1,20 @@
 // Token buckets (document 01, "Buckets"; 000 `RateBucket`, `rate_limit_check`).
 use crate::identity;
 use crate::identity::Id;
+use crate::identity::PREFIX;
 ghost use mathlib.Core.Path.{_≡_};
 ghost use Prim.Native.Nat.{_+_, _-_, _*_, _/_, min};
 ghost use mathlib.Core.Bool.{cond, not, _&&_};
-ghost use Rattle.tables.specs.Scan.{find, leastOf, placeOf, any};
+ghost use Rattle.tables.specs.Scan.{find, leastOf, leastPlace, any};
 ghost use Rattle.tables.specs.Identity.{isRemoved};
 ghost use Rattle.tables.specs.Buckets.{withTokens, refilled, takeToken, spend, isExpired, holdsBucket, made, newcomer, decide, removedBucket, emptyBucket, bucketFine};
+
+// How many token buckets a monitor holds.
+pub const BUCKETS: usize = 32;
+const LAST: usize = BUCKETS - 1;
+
+// How long a bucket may be idle before a newcomer takes its place with its full rate, in microseconds.
+const IDLE_MAX: u64 = 300_000_000;
 
 pub struct RateBucket {
     pub id: Id,
@@ -124,7 +132,7 @@ pub fn try_consume(bucket: &mut RateBucket, now_us: u64) -> bool
 pub fn is_expired(bucket: RateBucket, now_us: u64) -> bool
     ensures { λ r. ⌜ r ≡ isExpired bucket «now_us» ⌝ }
 {
-    300_000_000 < since(bucket.last_refill_us, now_us)
+    IDLE_MAX < since(bucket.last_refill_us, now_us)
 }
 
 // A bucket made now: its capacity is the rate.
@@ -182,11 +190,11 @@ fn spent_at(at: usize, held: RateBucket, now_us: u64) -> RateDecision
 }
 
 // The first free place; 32 where there is none.
-fn find_free(buckets: [RateBucket; 32]) -> usize
+fn find_free(buckets: [RateBucket; BUCKETS]) -> usize
     ensures { λ r. ⌜ r ≡ find (λ b. not (b .active)) buckets ⌝ }
 {
     let mut i = 0;
-    while i < 32 {
+    while i < BUCKETS {
         let bucket = buckets[i];
         if !bucket.active {
             return i;
@@ -197,13 +205,13 @@ fn find_free(buckets: [RateBucket; 32]) -> usize
 }
 
 // The place of the least refill time. It counts down, so that the first place wins a tie.
-fn find_oldest(buckets: [RateBucket; 32]) -> usize
-    ensures { λ r. ⌜ r ≡ placeOf (leastOf (λ b. b .«last_refill_us») any buckets) ⌝ }
+fn find_oldest(buckets: [RateBucket; BUCKETS]) -> usize
+    ensures { λ r. ⌜ r ≡ leastPlace (leastOf (λ b. b .«last_refill_us») any buckets) ⌝ }
 {
-    let last = buckets[31];
-    let mut at: usize = 31;
+    let last = buckets[LAST];
+    let mut at: usize = LAST;
     let mut time = last.last_refill_us;
-    let mut i: usize = 31;
+    let mut i: usize = LAST;
     while 0 < i {
         i -= 1;
         let bucket = buckets[i];
@@ -228,11 +236,11 @@ fn granted(at: usize, id: Id, rate: u16, now_us: u64) -> RateDecision
 }
 
 // A message of a new identity: it gets the first free place, else that of the least refill time, whose bucket is expired or gives way.
-fn newcomer(buckets: [RateBucket; 32], id: Id, max_rate: u16, now_us: u64) -> RateDecision
+fn newcomer(buckets: [RateBucket; BUCKETS], id: Id, max_rate: u16, now_us: u64) -> RateDecision
     ensures { λ r. ⌜ r ≡ newcomer buckets id «max_rate» «now_us» ⌝ }
 {
     let free = find_free(buckets);
-    if free < 32 {
+    if free < BUCKETS {
         return granted(free, id, max_rate, now_us);
     }
     let oldest = find_oldest(buckets);
@@ -250,7 +258,7 @@ fn newcomer(buckets: [RateBucket; 32], id: Id, max_rate: u16, now_us: u64) -> Ra
 
 // What the limiter decides on a message of an identity under a rate. A bucket is handed on where it is found: a second read would copy the table.
 pub fn rate_limit_check(
-    buckets: [RateBucket; 32],
+    buckets: [RateBucket; BUCKETS],
     id: Id,
     max_rate: u16,
     now_us: u64,
@@ -258,7 +266,7 @@ pub fn rate_limit_check(
     ensures { λ r. ⌜ r ≡ decide buckets id «max_rate» «now_us» ⌝ }
 {
     let mut i = 0;
-    while i < 32 {
+    while i < BUCKETS {
         let bucket = buckets[i];
         if holds_bucket(id, bucket) {
             return spent_at(i, bucket, now_us);
@@ -280,11 +288,11 @@ fn removes_bucket(id: Id, bucket: RateBucket) -> bool
 }
 
 // The place of the bucket that the remove call removes; 32 where it is not held.
-pub fn removed_bucket(buckets: [RateBucket; 32], id: Id) -> usize
+pub fn removed_bucket(buckets: [RateBucket; BUCKETS], id: Id) -> usize
     ensures { λ r. ⌜ r ≡ removedBucket id buckets ⌝ }
 {
     let mut i = 0;
-    while i < 32 {
+    while i < BUCKETS {
         let bucket = buckets[i];
         if removes_bucket(id, bucket) {
             return i;
@@ -316,5 +324,5 @@ pub fn bucket_fine(bucket: RateBucket) -> bool
         return true;
     }
     let held = bucket.id;
-    held.prefix_len <= 32
+    held.prefix_len as usize <= PREFIX
 }

@@ -2,14 +2,17 @@
 ghost use mathlib.Core.Path.{_≡_};
 ghost use Prim.Native.Nat.{min};
 ghost use lib.ListN.{take};
-ghost use Rattle.topics.specs.Levels.{same};
+ghost use Rattle.slices.specs.Bytes.{same};
 ghost use Rattle.tables.specs.Identity.{prefixOf, idOf, isOf, isRemoved, emptyId};
+
+// How many of a topic's first bytes an identity keeps.
+pub const PREFIX: usize = 32;
 
 // The Rust keeps these six fields in each bucket and each tracker.
 pub struct Id {
     pub hash: u32,
     pub hash2: u32,
-    pub prefix: [u8; 32],
+    pub prefix: [u8; PREFIX],
     pub prefix_len: u8,
     pub len: u16,
     pub suffix_hash: u32,
@@ -23,11 +26,11 @@ fn least(a: usize, b: usize) -> usize
 }
 
 // The first 32 bytes of a topic, zeros after its end.
-fn prefix_of(topic: &[u8]) -> [u8; 32]
+fn prefix_of(topic: &[u8]) -> [u8; PREFIX]
     ensures { λ r. ⌜ r ≡ prefixOf (now (topic .entry)) ⌝ }
 {
-    let n = least(topic.len(), 32);
-    let mut prefix = [0u8; 32];
+    let n = least(topic.len(), PREFIX);
+    let mut prefix = [0u8; PREFIX];
     let mut i = 0;
     while i < n {
         prefix[i] = topic[i];
@@ -44,18 +47,18 @@ pub fn id_of(topic: &[u8]) -> Id
         hash: topics::hashes::fnv1a_hash(topic),
         hash2: topics::hashes::djb2_hash(topic),
         prefix: prefix_of(topic),
-        prefix_len: least(topic.len(), 32) as u8,
+        prefix_len: least(topic.len(), PREFIX) as u8,
         len: (topic.len() % 65536) as u16,
         suffix_hash: topics::hashes::suffix_hash(topic),
     }
 }
 
 // The first `n` bytes of two prefixes, at most all 32, are the same.
-fn same_prefix(a: [u8; 32], b: [u8; 32], n: usize) -> bool
+fn same_prefix(a: [u8; PREFIX], b: [u8; PREFIX], n: usize) -> bool
     ensures { λ r. ⌜ r ≡ same (take n a) (take n b) ⌝ }
 {
-    let cut = least(n, 32);
-    topics::patterns::same_bytes(&a[..cut], &b[..cut])
+    let cut = least(n, PREFIX);
+    slices::bytes::same_bytes(&a[..cut], &b[..cut])
 }
 
 // A held identity is that of a topic: equal hashes, length, suffix hash and first bytes.
@@ -94,7 +97,7 @@ pub fn is_removed(id: Id, held: Id) -> bool
     }
     let a = held.prefix;
     let b = id.prefix;
-    same_prefix(a, b, 32)
+    same_prefix(a, b, PREFIX)
 }
 
 // The identity in a free place.
@@ -104,7 +107,7 @@ pub fn empty_id() -> Id
     Id {
         hash: 0,
         hash2: 0,
-        prefix: [0; 32],
+        prefix: [0; PREFIX],
         prefix_len: 0,
         len: 0,
         suffix_hash: 0,

@@ -1,5 +1,6 @@
 // Payload trackers (document 01, "CONNECT windows and payload trackers"; 000 `EwmaTracker`, `ewma_update`).
 use crate::identity::Id;
+use crate::identity::PREFIX;
 use crate::identity::empty_id;
 use crate::identity::is_of;
 use crate::identity::is_removed;
@@ -7,9 +8,12 @@ ghost use mathlib.Core.Bool.{_&&_, not};
 ghost use mathlib.Core.Path.{_≡_};
 ghost use Prim.Native.Nat.{_+_, _*_, _/_, min};
 ghost use Rattle.tables.specs.Identity.{isRemoved};
-ghost use Rattle.tables.specs.Scan.{find, leastOf, placeOf, any, seat};
-ghost use Rattle.tables.specs.Trackers.{saturated, meanAfter, threshold, isAnomaly, fed, freshTracker};
-ghost use Rattle.tables.specs.Trackers.{holdsTracker, feedAt, feed, removedTracker, emptyTracker, trackerFine};
+ghost use Rattle.tables.specs.Scan.{find, leastOf, leastPlace, any, seat};
+ghost use Rattle.tables.specs.Trackers.{saturated, meanAfter, threshold, isAnomaly, fed, freshTracker, holdsTracker, feedAt, feed, removedTracker, emptyTracker, trackerFine};
+
+// How many payload trackers a monitor holds.
+pub const TRACKERS: usize = 16;
+const LAST: usize = TRACKERS - 1;
 
 pub struct EwmaTracker {
     pub id: Id,
@@ -151,11 +155,11 @@ fn is_removed_tracker(tracker: EwmaTracker, id: Id) -> bool
 }
 
 // The first free place; 16 where there is none.
-fn free_tracker(trackers: [EwmaTracker; 16]) -> usize
+fn find_free(trackers: [EwmaTracker; TRACKERS]) -> usize
     ensures { λ r. ⌜ r ≡ find (λ k. not (k .active)) trackers ⌝ }
 {
     let mut i: usize = 0;
-    while i < 16 {
+    while i < TRACKERS {
         let tracker = trackers[i];
         if !tracker.active {
             return i;
@@ -166,13 +170,13 @@ fn free_tracker(trackers: [EwmaTracker; 16]) -> usize
 }
 
 // The place of the least update time. It counts down, so that `<=` leaves a tie to the first place.
-fn oldest_tracker(trackers: [EwmaTracker; 16]) -> usize
-    ensures { λ r. ⌜ r ≡ placeOf (leastOf (λ k. k .«last_update_us») any trackers) ⌝ }
+fn find_oldest(trackers: [EwmaTracker; TRACKERS]) -> usize
+    ensures { λ r. ⌜ r ≡ leastPlace (leastOf (λ k. k .«last_update_us») any trackers) ⌝ }
 {
-    let last = trackers[15];
+    let last = trackers[LAST];
     let mut time = last.last_update_us;
-    let mut at: usize = 15;
-    let mut i: usize = 15;
+    let mut at: usize = LAST;
+    let mut i: usize = LAST;
     while 0 < i {
         i -= 1;
         let tracker = trackers[i];
@@ -185,14 +189,14 @@ fn oldest_tracker(trackers: [EwmaTracker; 16]) -> usize
 }
 
 // Where a newcomer's tracker goes.
-fn tracker_seat(trackers: [EwmaTracker; 16]) -> usize
+fn find_seat(trackers: [EwmaTracker; TRACKERS]) -> usize
     ensures { λ r. ⌜ r ≡ seat (λ k. not (k .active)) (λ k. k .«last_update_us») trackers ⌝ }
 {
-    let free = free_tracker(trackers);
-    if free < 16 {
+    let free = find_free(trackers);
+    if free < TRACKERS {
         return free;
     }
-    oldest_tracker(trackers)
+    find_oldest(trackers)
 }
 
 // The size is judged by the mean before it, then fed.
@@ -210,7 +214,7 @@ fn feed_at(at: usize, tracker: EwmaTracker, payload_len: u16, now_us: u64) -> Tr
 
 // What a fed message does to the table (000 `ewma_update`).
 pub fn ewma_update(
-    trackers: [EwmaTracker; 16],
+    trackers: [EwmaTracker; TRACKERS],
     id: Id,
     payload_len: u16,
     now_us: u64,
@@ -218,23 +222,23 @@ pub fn ewma_update(
     ensures { λ r. ⌜ r ≡ feed trackers id «payload_len» «now_us» ⌝ }
 {
     let mut i: usize = 0;
-    while i < 16 {
+    while i < TRACKERS {
         let tracker = trackers[i];
         if is_tracker(tracker, id) {
             return feed_at(i, tracker, payload_len, now_us);
         }
         i += 1;
     }
-    let at = tracker_seat(trackers);
+    let at = find_seat(trackers);
     feed_at(at, fresh_tracker(id), payload_len, now_us)
 }
 
 // The place of the tracker that a remove call removes; 16 where it is not held (000 `remove_ewma_tracker`).
-pub fn removed_tracker(trackers: [EwmaTracker; 16], id: Id) -> usize
+pub fn removed_tracker(trackers: [EwmaTracker; TRACKERS], id: Id) -> usize
     ensures { λ r. ⌜ r ≡ removedTracker id trackers ⌝ }
 {
     let mut i: usize = 0;
-    while i < 16 {
+    while i < TRACKERS {
         let tracker = trackers[i];
         if is_removed_tracker(tracker, id) {
             return i;
@@ -264,7 +268,7 @@ pub fn tracker_fine(tracker: EwmaTracker) -> bool
 {
     let id = tracker.id;
     if tracker.active {
-        return id.prefix_len <= 32;
+        return id.prefix_len as usize <= PREFIX;
     }
     true
 }

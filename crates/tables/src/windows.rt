@@ -4,13 +4,18 @@ ghost use mathlib.Core.Bool.{cond, not};
 ghost use mathlib.Core.Path.{_≡_};
 ghost use Prim.Native.Nat.{_+_, _-_, min};
 ghost use lib.Dec.{leb, ltb};
-ghost use Rattle.tables.specs.Scan.{find, leastOf, placeOf, any, seat};
+ghost use Rattle.tables.specs.Scan.{find, leastOf, leastPlace, any, seat};
 ghost use Rattle.tables.specs.Windows.{freshWindow, recorded, inWindow, holdsClient, connectAt, connect, emptyWindow, windowFine};
+
+// How many CONNECT windows a monitor holds, and how many stamps a window keeps.
+pub const WINDOWS: usize = 16;
+pub const STAMPS: usize = 16;
+const LAST: usize = WINDOWS - 1;
 
 pub struct ClientStormEntry {
     pub client_hash: u32,
     pub client_hash2: u32,
-    pub timestamps: [u64; 16],
+    pub timestamps: [u64; STAMPS],
     pub count: u8,
     pub write_idx: u8,
     pub last_seen_us: u64,
@@ -28,7 +33,11 @@ pub struct ConnectDecision {
 fn one_more(count: u8) -> u8
     ensures { λ r. ⌜ r ≡ cond (ltb count 16) (count + 1) count ⌝ }
 {
-    if count < 16 { count + 1 } else { count }
+    if (count as usize) < STAMPS {
+        count + 1
+    } else {
+        count
+    }
 }
 
 // Records a CONNECT: the ring's next place takes the stamp (000 `record`).
@@ -60,7 +69,8 @@ fn start_of(now_us: u64, window_us: u64) -> u64
 fn held_of(count: u8) -> usize
     ensures { λ r. ⌜ r ≡ min count 16 ⌝ }
 {
-    if count < 16 { count as usize } else { 16 }
+    let n = count as usize;
+    if n < STAMPS { n } else { STAMPS }
 }
 
 // 1 for a stamp at or above the window's start, 0 for one below.
@@ -93,7 +103,7 @@ fn fresh_window(hashes: ClientHashes) -> ClientStormEntry
     ClientStormEntry {
         client_hash: hashes.hash,
         client_hash2: hashes.hash2,
-        timestamps: [0; 16],
+        timestamps: [0; STAMPS],
         count: 0,
         write_idx: 0,
         last_seen_us: 0,
@@ -115,11 +125,11 @@ fn is_client(entry: ClientStormEntry, hashes: ClientHashes) -> bool
 }
 
 // The first free place; 16 where there is none.
-fn free_window(clients: [ClientStormEntry; 16]) -> usize
+fn find_free(clients: [ClientStormEntry; WINDOWS]) -> usize
     ensures { λ r. ⌜ r ≡ find (λ e. not (e .active)) clients ⌝ }
 {
     let mut i: usize = 0;
-    while i < 16 {
+    while i < WINDOWS {
         let entry = clients[i];
         if !entry.active {
             return i;
@@ -130,13 +140,13 @@ fn free_window(clients: [ClientStormEntry; 16]) -> usize
 }
 
 // The place of the least last-seen. It counts down, so that `<=` leaves a tie to the first place.
-fn oldest_window(clients: [ClientStormEntry; 16]) -> usize
-    ensures { λ r. ⌜ r ≡ placeOf (leastOf (λ e. e .«last_seen_us») any clients) ⌝ }
+fn find_oldest(clients: [ClientStormEntry; WINDOWS]) -> usize
+    ensures { λ r. ⌜ r ≡ leastPlace (leastOf (λ e. e .«last_seen_us») any clients) ⌝ }
 {
-    let last = clients[15];
+    let last = clients[LAST];
     let mut time = last.last_seen_us;
-    let mut at: usize = 15;
-    let mut i: usize = 15;
+    let mut at: usize = LAST;
+    let mut i: usize = LAST;
     while 0 < i {
         i -= 1;
         let entry = clients[i];
@@ -149,14 +159,14 @@ fn oldest_window(clients: [ClientStormEntry; 16]) -> usize
 }
 
 // Where a newcomer's window goes.
-fn window_seat(clients: [ClientStormEntry; 16]) -> usize
+fn find_seat(clients: [ClientStormEntry; WINDOWS]) -> usize
     ensures { λ r. ⌜ r ≡ seat (λ e. not (e .active)) (λ e. e .«last_seen_us») clients ⌝ }
 {
-    let free = free_window(clients);
-    if free < 16 {
+    let free = find_free(clients);
+    if free < WINDOWS {
         return free;
     }
-    oldest_window(clients)
+    find_oldest(clients)
 }
 
 // The CONNECT is recorded, then counted (000 `record_connect`, then `detect_connect_storm`).
@@ -180,7 +190,7 @@ fn connect_at(
 
 // What a CONNECT does to the table (000 `record_connect`, `detect_connect_storm`).
 pub fn record_connect(
-    clients: [ClientStormEntry; 16],
+    clients: [ClientStormEntry; WINDOWS],
     hashes: ClientHashes,
     now_us: u64,
     threshold: u8,
@@ -189,14 +199,14 @@ pub fn record_connect(
     ensures { λ r. ⌜ r ≡ connect clients hashes «now_us» threshold «window_us» ⌝ }
 {
     let mut i: usize = 0;
-    while i < 16 {
+    while i < WINDOWS {
         let entry = clients[i];
         if is_client(entry, hashes) {
             return connect_at(i, entry, now_us, threshold, window_us);
         }
         i += 1;
     }
-    let at = window_seat(clients);
+    let at = find_seat(clients);
     connect_at(at, fresh_window(hashes), now_us, threshold, window_us)
 }
 
@@ -207,7 +217,7 @@ pub fn empty_window() -> ClientStormEntry
     ClientStormEntry {
         client_hash: 0,
         client_hash2: 0,
-        timestamps: [0; 16],
+        timestamps: [0; STAMPS],
         count: 0,
         write_idx: 0,
         last_seen_us: 0,
@@ -220,7 +230,7 @@ pub fn window_fine(entry: ClientStormEntry) -> bool
     ensures { λ r. ⌜ r ≡ windowFine entry ⌝ }
 {
     if entry.active {
-        return entry.count <= 16;
+        return entry.count as usize <= STAMPS;
     }
     true
 }

@@ -63,7 +63,7 @@ use Rattle.lines.proofs.value.word.Reads as value-word-reads
 use Rattle.lines.proofs.value.hex as value-hex
 use Rattle.lines.proofs.value.hex.Reads as value-hex-reads
 use Rattle.lines.proofs.held.new as held-new
-use Rattle.lines.proofs.held.next_line as held-next-line
+use Rattle.lines.proofs.held.line_here as held-line-here
 
 -- what `Wrote` says of a place and a buffer, no other place and buffer meet
 pub wrote-once : {d e f : List ℕ} {at x y : ℕ} {t : List ℕ} → Wrote d e at t x → Wrote d f at t y → (x ≡ y) × (e ≡ f)
@@ -245,14 +245,14 @@ pub any-held-new : AsksNothing held-new.ended (λ M 𝓤. held-new.clauses 𝓤)
 any-held-new M 𝓤 H A mem run κs a g = refl
 
 -- it takes a struct that holds a slice
-abbrev promised-held-next-line : Out held-next-line.ended
-promised-held-next-line κs a x e = x ≡ spanOf (now (a .0 .text)) (a .0 .at)
+abbrev promised-held-line-here : Out held-line-here.ended
+promised-held-line-here κs a x e = x ≡ spanOf (now (a .0 .text)) (a .0 .at)
 
-pub says-held-next-line : Says held-next-line.ended (λ M 𝓤. held-next-line.clauses 𝓤) promised-held-next-line
-says-held-next-line M 𝓤 H A mem run κs a g x e = refl
+pub says-held-line-here : Says held-line-here.ended (λ M 𝓤. held-line-here.clauses 𝓤) promised-held-line-here
+says-held-line-here M 𝓤 H A mem run κs a g x e = refl
 
-pub one-held-next-line : One held-next-line.ended promised-held-next-line
-one-held-next-line κs a x y e f p q = p ∙ sym q
+pub one-held-line-here : One held-line-here.ended promised-held-line-here
+one-held-line-here κs a x y e f p q = p ∙ sym q
 
-pub any-held-next-line : AsksNothing held-next-line.ended (λ M 𝓤. held-next-line.clauses 𝓤)
-any-held-next-line M 𝓤 H A mem run κs a g = refl
+pub any-held-line-here : AsksNothing held-line-here.ended (λ M 𝓤. held-line-here.clauses 𝓤)
+any-held-line-here M 𝓤 H A mem run κs a g = refl

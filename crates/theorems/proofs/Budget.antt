@@ -13,15 +13,16 @@ use borrow.Author.Tests.{eqb-true, eqb-false}
 use lib.Dec.{eqb}
 use lib.ListN.{length, set, length-set}
 use lib.Seq.{getD-set-same, getD-set-other}
-use Rattle.topics.proofs.BoolLaws.{fails}
-use Rattle.topics.proofs.ByteLaws.{by}
+use Rattle.laws.proofs.Tests.{fails}
+use Rattle.laws.proofs.Cases.{by}
 use Rattle.tables.specs.Buckets.{noBucket, holdsBucket, spend, made, isExpired}
 use Rattle.tables.specs.Identity.{isOf}
 use Rattle.tables.specs.declared.identity.Id.{Id}
 use Rattle.tables.specs.declared.buckets.RateBucket.{RateBucket}
 use Rattle.tables.proofs.BucketLaws.{level, one, Good, spends, makes, keeps, wait}
 use Rattle.tables.proofs.IdentityLaws.{OfTopic}
-use Rattle.tables.proofs.StepLaws.{bucketAt, timeAt, Absent, free, worn, first, Step, hit, put, expired, each}
+use Rattle.tables.proofs.StepLaws.{bucketAt, timeAt, Absent, free, worn, first, Step, hit, put, expired}
+use Rattle.laws.proofs.Lists.{each}
 use Rattle.theorems.proofs.Holders.{clash, Named, same-holder, held-live, made-holder, not-mine, mine, absent-mine, absent-other}
 
 pub data Inv (x : Id) (R : ℕ) (T : List RateBucket) (now u B : ℕ) : Type 0 where

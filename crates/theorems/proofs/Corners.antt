@@ -1,9 +1,10 @@
 -- P1 to P12 by computation. Assumes nothing.
 use mathlib.Core.Path.{refl}
 use Rattle.topics.specs.Hashes.{fnv1a, djb2, suffixHash, clientHashes}
-use Rattle.topics.specs.Levels.{firstLevel, restLevels, same, has}
+use Rattle.topics.specs.Levels.{firstLevel, restLevels}
+use Rattle.slices.specs.Bytes.{same, has, countOf}
 use Rattle.topics.specs.Matching.{matchLevels, fromSlash, takesNone, takesEnd, matchBytes, standardRule, standardMatches}
-use Rattle.topics.specs.Patterns.{wellPlaced, countOf, patternRefusal}
+use Rattle.topics.specs.Patterns.{wellPlaced, patternRefusal}
 use Rattle.tables.specs.Buckets.{refilled, spend, isExpired, holdsBucket, newcomer, decide}
 use Rattle.tables.specs.Identity.{prefixOf, idOf, isOf}
 use Rattle.tables.specs.Scan.{find, leastOf, seat}

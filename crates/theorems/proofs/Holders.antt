@@ -4,14 +4,15 @@ use mathlib.Core.Bool.{Bool, true, false, _&&_, false≢true}
 use mathlib.Core.List.{List}
 use mathlib.Core.Path.{_≡_, refl, sym, _∙_}
 use Prim.Native.Nat.{ℕ}
-use Rattle.topics.proofs.BoolLaws.{both}
+use Rattle.laws.proofs.Tests.{both}
 use Rattle.tables.specs.Buckets.{noBucket, holdsBucket, spend, made}
 use Rattle.tables.specs.Identity.{isOf}
 use Rattle.tables.specs.declared.identity.Id.{Id}
 use Rattle.tables.specs.declared.buckets.RateBucket.{RateBucket}
 use Rattle.tables.proofs.BucketLaws.{keeps}
 use Rattle.tables.proofs.IdentityLaws.{OfTopic, of-true, of-like}
-use Rattle.tables.proofs.StepLaws.{first, bucketAt, Absent, Step, hit, put, each}
+use Rattle.tables.proofs.StepLaws.{first, bucketAt, Absent, Step, hit, put}
+use Rattle.laws.proofs.Lists.{each}
 
 -- two opposite answers
 pub clash : {P : Type 0} {c : Bool} → c ≡ true → c ≡ false → P

@@ -7,9 +7,9 @@ use Prim.Native.Nat.{ℕ, zero, suc, _+_, _*_, _≤_, min}
 use native.Mathlib.Omega.{arith}
 use lib.ListN.{length, length-take, length-drop}
 use Rattle.topics.specs.Matching.{portMatches}
-use Rattle.topics.proofs.BoolLaws.{both}
-use Rattle.topics.proofs.ByteLaws.{by}
-use Rattle.lines.specs.Bytes.{bytes}
+use Rattle.laws.proofs.Tests.{both}
+use Rattle.laws.proofs.Cases.{by}
+use Rattle.slices.specs.Bytes.{bytes}
 use Rattle.lines.specs.Span.{part}
 use Rattle.tables.specs.declared.rules.MqttQoS.the-variants.{AtLeastOnce}
 use Rattle.tables.specs.declared.rules.QosPolicy.the-variants.{MinQoS}
@@ -17,7 +17,8 @@ use Rattle.tables.specs.declared.rules.TopicAction.the-variants.{Allow, Block}
 use Rattle.monitor.specs.Inspect.{doneWith}
 use Rattle.monitor.specs.Prepared.{Prepared, made, rule}
 use Rattle.monitor.specs.Runs.{Call, Exact, Reply, answer, after, replies, isInspected, isPassed}
-use Rattle.monitor.specs.State.{every, wellFormed}
+use Rattle.laws.specs.Lists.{every}
+use Rattle.monitor.specs.State.{wellFormed}
 use Rattle.monitor.specs.declared.inspection.Inspected.{Inspected}
 use Rattle.monitor.specs.declared.state.MqttMonitor.{MqttMonitor}
 use Rattle.monitor.proofs.KeptFormed.{kept-formed}

@@ -9,8 +9,8 @@ use native.Mathlib.Omega.{arith}
 use borrow.Author.Tests.{lt-ltb}
 use lib.Dec.{ltb}
 use lib.ListN.{length}
-use Rattle.topics.proofs.BoolLaws.{both}
-use Rattle.topics.proofs.ByteLaws.{by}
+use Rattle.laws.proofs.Tests.{both}
+use Rattle.laws.proofs.Cases.{by}
 use Rattle.tables.specs.Identity.{idOf, isOf}
 use Rattle.tables.specs.declared.identity.Id.{Id}
 use Rattle.tables.specs.declared.buckets.RateBucket.{RateBucket}

@@ -8,17 +8,18 @@ use native.Mathlib.Omega.{arith}
 use borrow.Author.Tests.{lt-ltb, not-true}
 use lib.Dec.{eqb, ltb}
 use lib.ListN.{length, length-take}
-use Rattle.topics.specs.Levels.{same}
+use Rattle.slices.specs.Bytes.{same}
 use Rattle.topics.specs.Matching.{portMatches}
-use Rattle.topics.proofs.BoolLaws.{both, alike, fails}
-use Rattle.topics.proofs.ByteLaws.{by}
-use Rattle.topics.proofs.SameLaws.{same-true, same-refl}
+use Rattle.laws.proofs.Tests.{both, alike, fails}
+use Rattle.laws.proofs.Cases.{by}
+use Rattle.slices.proofs.bytes.SameLaws.{same-true, same-refl}
 use Rattle.tables.specs.Identity.{idOf, isOf}
 use Rattle.tables.proofs.IdentityLaws.{is-of-refl, is-of-exact}
 use Rattle.monitor.specs.Inspect.{inspectRefusal, inspectWith}
 use Rattle.monitor.specs.Prepared.{Prepared}
 use Rattle.monitor.specs.Runs.{Call, Reply, answer, after, replies, isInspected, isPassed}
-use Rattle.monitor.specs.State.{every, numberOf}
+use Rattle.laws.specs.Lists.{every}
+use Rattle.monitor.specs.State.{numberOf}
 use Rattle.monitor.specs.declared.state.MqttMonitor.{MqttMonitor}
 use Rattle.monitor.proofs.Prepared.{prepared-sound}
 use Rattle.trace.specs.Trace.{messagesOf}

@@ -9,10 +9,10 @@ use borrow.Author.Tests.{eqb-true, ltb-true, ltb-false}
 use lib.Dec.{eqb, ltb}
 use lib.ListN.{length, getD, take, length-take, List·getD-eq-default}
 use lib.Seq.{getD-take}
-use Rattle.topics.specs.Levels.{none}
+use Rattle.laws.specs.Lists.{none, every}
 use Rattle.topics.specs.Names.{badPublish}
-use Rattle.topics.proofs.BoolLaws.{both}
-use Rattle.topics.proofs.ByteLaws.{by}
+use Rattle.laws.proofs.Tests.{both}
+use Rattle.laws.proofs.Cases.{by}
 use Rattle.tables.specs.Rules.{patternOf, ruleFine, firstRule, noRule}
 use Rattle.tables.specs.Scan.{find}
 use Rattle.tables.specs.declared.rules.TopicAction.{TopicAction}
@@ -23,7 +23,7 @@ use Rattle.monitor.specs.Inspect.{inspectRefusal}
 use Rattle.monitor.specs.Message.{typeNumber}
 use Rattle.monitor.specs.Plan.{gateIn}
 use Rattle.monitor.specs.Runs.{Call}
-use Rattle.monitor.specs.State.{every, wellFormed}
+use Rattle.monitor.specs.State.{wellFormed}
 use Rattle.monitor.specs.declared.gate.Gate.{Gate}
 use Rattle.monitor.specs.declared.gate.Ruling.{Ruling}
 use Rattle.monitor.specs.declared.message.MqttMessage.{MqttMessage}

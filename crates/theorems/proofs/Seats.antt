@@ -11,15 +11,16 @@ use borrow.Author.Tests.{eqb-true, eqb-false, ltb-true, ltb-false}
 use lib.Dec.{eqb, ltb}
 use lib.ListN.{length, set, length-append}
 use lib.Seq.{getD-set-same, getD-set-other}
-use Rattle.topics.proofs.BoolLaws.{fails}
-use Rattle.topics.proofs.ByteLaws.{by}
+use Rattle.laws.proofs.Tests.{fails}
+use Rattle.laws.proofs.Cases.{by}
 use Rattle.tables.specs.Buckets.{noBucket, holdsBucket, spend, made}
 use Rattle.tables.specs.Identity.{isOf}
 use Rattle.tables.specs.declared.identity.Id.{Id}
 use Rattle.tables.specs.declared.buckets.RateBucket.{RateBucket}
 use Rattle.tables.proofs.BucketLaws.{keeps}
 use Rattle.tables.proofs.IdentityLaws.{OfTopic, of-true, is-of-refl}
-use Rattle.tables.proofs.StepLaws.{bucketAt, timeAt, Absent, Seat, free, worn, first, Step, hit, put, each}
+use Rattle.tables.proofs.StepLaws.{bucketAt, timeAt, Absent, Seat, free, worn, first, Step, hit, put}
+use Rattle.laws.proofs.Lists.{each}
 use Rattle.theorems.specs.Run.{isAmong, noted}
 use Rattle.theorems.proofs.Holders.{clash, Named, same-holder, held-live, no-holder, made-holder, not-mine, mine}
 

@@ -6,33 +6,34 @@ use mathlib.Core.List.{List, [], _∷_, _++_}
 use Prim.Native.Nat.{ℕ, _+_, _-_, _*_, _≤_, _<_}
 use native.Mathlib.Omega.{arith}
 use lib.ListN.{length}
-use Rattle.lines.specs.Bytes.{bytes}
+use Rattle.slices.specs.Bytes.{bytes, same, has, countOf, begins, findByte, toByte}
 use Rattle.topics.specs.Hashes.{fnv1a, djb2, suffixHash}
-use Rattle.topics.specs.Levels.{firstLevel, restLevels, same, has}
+use Rattle.topics.specs.Levels.{firstLevel, restLevels}
 use Rattle.topics.specs.Matching.{matchLevels, fromSlash, takesNone, takesEnd, matchBytes, standardRule, portMatches, standardMatches}
-use Rattle.topics.specs.Patterns.{wellPlaced, countOf, patternRefusal}
+use Rattle.topics.specs.Patterns.{wellPlaced, patternRefusal}
 use Rattle.topics.specs.declared.matching.StandardMatch.{StandardMatch}
 use Rattle.topics.specs.declared.matching.StandardMatch.the-variants.{Yes, No, OutsideDomain}
 use Rattle.lines.specs.Decimal.{decimal, decimalIn}
 use Rattle.lines.specs.Field.{keyed, lineAt, answered, wordField, numberField}
 use Rattle.lines.specs.Line.{numberLine}
-use Rattle.lines.specs.ReadWord.{begins, isWord, wordOf, wordIndex}
-use Rattle.lines.specs.Span.{spanOf, placeOf, toByte}
+use Rattle.lines.specs.ReadWord.{isWord, wordOf, wordIndex}
+use Rattle.lines.specs.Span.{spanOf}
 use Rattle.lines.specs.Word.{firstWord, restWords}
 use Rattle.tables.specs.Buckets.{refilled, spend, isExpired, holdsBucket, newcomer, decide}
 use Rattle.tables.specs.Identity.{prefixOf, idOf, isOf}
-use Rattle.tables.specs.Rules.{qosOk, ruleFine, equalRule, firstRule, covered, shadowedAfter}
+use Rattle.tables.specs.Rules.{qosOk, ruleFine, equalRule, firstRule, covered, shadowedAfter, rulePlan}
 use Rattle.tables.specs.Scan.{find, leastOf}
 use Rattle.tables.specs.declared.identity.Id.{Id}
 use Rattle.tables.specs.declared.rules.QosPolicy.the-variants.{Any}
 use Rattle.tables.specs.declared.rules.TopicAction.the-variants.{Allow}
 use Rattle.monitor.specs.Alerts.{severityOf, hashOf, kindsOf, raise, raiseAll}
-use Rattle.monitor.specs.Calls.{fresh, rulePlan, addRule, validateRules}
+use Rattle.monitor.specs.Calls.{fresh, addRule, validateRules}
 use Rattle.monitor.specs.Gate.{rulingOf, gateAfter, gateOf}
 use Rattle.monitor.specs.Inspect.{applied, inspectRefusal, inspectWith}
 use Rattle.monitor.specs.Plan.{seenOf, spentOf, fedOf, denialOf, planFrom, planOf}
 use Rattle.monitor.specs.Runs.{Call, answer, after}
-use Rattle.monitor.specs.State.{every, wellFormed}
+use Rattle.laws.specs.Lists.{every}
+use Rattle.monitor.specs.State.{wellFormed}
 use Rattle.monitor.specs.declared.inspection.Inspected.{Inspected}
 use Rattle.monitor.specs.declared.state.MqttMonitor.{MqttMonitor}
 use Rattle.monitor.specs.declared.state.Outcome.{Outcome}
@@ -220,7 +221,7 @@ invented-shadow v meets n h =
 
 -- an empty trace is refused at its first line, and one with that line alone at its second
 lines-read : (traceEnd 200 [] .line ≡ 1) × (traceEnd 200 (bytes "default=allow" ++ 10 ∷ []) .line ≡ 2)
-unfolding fresh spanOf placeOf toByte firstWord restWords begins isWord wordOf wordIndex keyed lineAt answered wordField numberField decimal decimalIn
+unfolding fresh spanOf findByte toByte firstWord restWords begins isWord wordOf wordIndex keyed lineAt answered wordField numberField decimal decimalIn
     numberLine openingOf opening1 opening2 closingText loadedFrom loaded messagesOf textFrom traceText traceEnd
 lines-read = (refl, refl)
 

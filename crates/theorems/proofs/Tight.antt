@@ -3,23 +3,24 @@ use mathlib.Core.Bool.{false≢true}
 use mathlib.Core.Path.{refl}
 use Prim.Native.Nat.{ℕ, _≤_}
 use native.Mathlib.Omega.{arith}
-use Rattle.lines.specs.Bytes.{bytes}
+use Rattle.slices.specs.Bytes.{bytes, same, has, countOf}
 use Rattle.topics.specs.Hashes.{fnv1a, djb2, suffixHash}
-use Rattle.topics.specs.Levels.{firstLevel, restLevels, same, has}
+use Rattle.topics.specs.Levels.{firstLevel, restLevels}
 use Rattle.topics.specs.Matching.{fromSlash, takesNone, takesEnd, matchBytes}
-use Rattle.topics.specs.Patterns.{wellPlaced, countOf, patternRefusal}
+use Rattle.topics.specs.Patterns.{wellPlaced, patternRefusal}
 use Rattle.tables.specs.Buckets.{refilled, spend, isExpired, holdsBucket, newcomer, decide}
 use Rattle.tables.specs.Identity.{prefixOf, idOf, isOf}
-use Rattle.tables.specs.Rules.{qosOk, ruleFine, equalRule, firstRule, covered, shadowedAfter}
+use Rattle.tables.specs.Rules.{qosOk, ruleFine, equalRule, firstRule, covered, shadowedAfter, rulePlan}
 use Rattle.tables.specs.Scan.{find, leastOf}
 use Rattle.tables.specs.declared.rules.QosPolicy.the-variants.{Any}
 use Rattle.tables.specs.declared.rules.TopicAction.the-variants.{Allow, Block}
 use Rattle.monitor.specs.Alerts.{severityOf, hashOf, kindsOf, raise, raiseAll}
-use Rattle.monitor.specs.Calls.{fresh, rulePlan, addRule}
+use Rattle.monitor.specs.Calls.{fresh, addRule}
 use Rattle.monitor.specs.Gate.{rulingOf, gateAfter, gateOf}
 use Rattle.monitor.specs.Inspect.{applied, inspectRefusal, inspectWith}
 use Rattle.monitor.specs.Plan.{seenOf, spentOf, fedOf, denialOf, planFrom, planOf}
-use Rattle.monitor.specs.State.{every, wellFormed}
+use Rattle.laws.specs.Lists.{every}
+use Rattle.monitor.specs.State.{wellFormed}
 use Rattle.monitor.specs.Runs.{after}
 use Rattle.monitor.specs.Prepared.{Prepared, made, rule}
 use Rattle.theorems.specs.Run.{InOrder, single, later, done, next, firstRate, rateOf, reaches, allowedOf, isAmong, arrived}

@@ -8,7 +8,7 @@ use native.Mathlib.Omega.{arith}
 use borrow.Author.Tests.{ltb-true, ltb-false}
 use lib.Dec.{eqb, ltb}
 use lib.ListN.{length, replicate, length-set, length-take, getD-replicate, List·getD-eq-default}
-use Rattle.topics.proofs.ByteLaws.{by}
+use Rattle.laws.proofs.Cases.{by}
 use Rattle.tables.specs.Buckets.{noBucket, emptyBucket, holdsBucket}
 use Rattle.tables.specs.Identity.{idOf}
 use Rattle.tables.specs.declared.identity.Id.{Id}

@@ -7,7 +7,7 @@ use Prim.Native.Nat.{ℕ}
 use Prim.Native.String.{String}
 use lib.Dec.{eqb}
 use lib.ListN.{drop, replicate}
-use Rattle.lines.specs.Bytes.{bytes}
+use Rattle.slices.specs.Bytes.{bytes}
 use Rattle.topics.specs.Hashes.{fnv1a, djb2, clientHashes}
 use Rattle.topics.specs.Matching.{portMatches, standardMatches}
 use Rattle.topics.specs.Patterns.{patternRefusal}

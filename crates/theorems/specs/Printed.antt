@@ -7,13 +7,12 @@ use mathlib.Core.Bool.{Bool, true, cond, not, _&&_}
 use mathlib.Core.List.{List, [], _∷_, _++_}
 use Prim.Native.Nat.{ℕ, zero, suc, _+_, _-_, _*_, _/_, _≤_, _<_, min}
 use lib.ListN.{length}
-use Rattle.topics.specs.Levels.{same}
+use Rattle.slices.specs.Bytes.{same, bytes}
 use Rattle.topics.specs.Matching.{portMatches}
-use Rattle.lines.specs.Bytes.{bytes}
 use Rattle.lines.specs.Span.{part}
 use Rattle.monitor.specs.Prepared.{Prepared}
 use Rattle.monitor.specs.Runs.{Call, Reply, replies, isInspected, isPassed}
-use Rattle.monitor.specs.State.{every}
+use Rattle.laws.specs.Lists.{every}
 use Rattle.monitor.specs.declared.state.MqttMonitor.{MqttMonitor}
 use Rattle.trace.specs.AsRun.{AsRun, repliesOf}
 use Rattle.trace.specs.Trace.{loaded, messagesOf}

@@ -7,7 +7,7 @@ use mathlib.Core.List.{List, [], _∷_, _++_}
 use Prim.Native.Nat.{ℕ, _+_, _≤_}
 use lib.Dec.{eqb, ltb}
 use lib.ListN.{take}
-use Rattle.topics.specs.Levels.{none}
+use Rattle.laws.specs.Lists.{none}
 use Rattle.topics.specs.Names.{badPublish}
 use Rattle.tables.specs.Identity.{idOf, isOf}
 use Rattle.tables.specs.declared.identity.Id.{Id}

@@ -4,7 +4,7 @@
 use mathlib.Core.Path.{_≡_}
 use mathlib.Core.List.{List, [], _∷_, _++_}
 use Prim.Native.Nat.{ℕ}
-use Rattle.lines.specs.Bytes.{bytes}
+use Rattle.slices.specs.Bytes.{bytes}
 use Rattle.topics.specs.Matching.{portMatches}
 use Rattle.tables.specs.Identity.{idOf}
 use Rattle.monitor.specs.Runs.{Call, after}

@@ -7,7 +7,7 @@ use mathlib.Core.Bool.{Bool, true, false}
 use mathlib.Core.List.{List, [], _∷_, _++_}
 use Prim.Native.Nat.{ℕ, zero, suc, _+_, _-_, _*_, _/_, _≤_}
 use lib.ListN.{length, getD}
-use Rattle.lines.specs.Bytes.{bytes}
+use Rattle.slices.specs.Bytes.{bytes}
 use Rattle.topics.specs.Matching.{portMatches}
 use Rattle.tables.specs.Identity.{idOf}
 use Rattle.tables.specs.declared.rules.MqttQoS.the-variants.{AtMostOnce}

@@ -5,7 +5,7 @@ use mathlib.Core.Path.{_≡_}
 use mathlib.Core.List.{List, [], _∷_, _++_}
 use Prim.Native.Nat.{ℕ, _+_, _-_, _*_, _/_}
 use Prim.Native.String.{String}
-use Rattle.lines.specs.Bytes.{bytes}
+use Rattle.slices.specs.Bytes.{bytes}
 use Rattle.topics.specs.Matching.{portMatches}
 use Rattle.trace.specs.AsRun.{repliesOf}
 use Rattle.trace.specs.Trace.{loaded, messagesOf}

@@ -3,11 +3,13 @@ use mathlib.Core.Bool.{Bool, true, false, not, _&&_, _||_, and-true, and-false, 
 use mathlib.Core.List.{List, [], _∷_}
 use mathlib.Core.Path.{_≡_, refl, sym, _∙_}
 use Prim.Native.Nat.{ℕ}
-use Rattle.topics.specs.Levels.{levels, none, same, isHash, isPlus}
+use Rattle.topics.specs.Levels.{levels, isHash, isPlus}
+use Rattle.laws.specs.Lists.{none}
+use Rattle.slices.specs.Bytes.{same}
 use Rattle.topics.specs.Patterns.{wellPlaced}
 use Rattle.topics.specs.Meaning.{Difference}
 use Rattle.topics.specs.Matching.{matchLevels, portMatches, standardRule, plusAtEmptyLast}
-use Rattle.topics.proofs.ByteLaws.{by}
+use Rattle.laws.proofs.Cases.{by}
 use Rattle.topics.proofs.Meaning.{meaning}
 
 neither : (a b m : Bool) → (not a && (m && not b)) ≡ (m && not (a || b))
@@ -31,4 +33,4 @@ difference (t ∷ ts) (p ∷ ps) =
 -- for every topic, and every pattern whose wildcards are well placed
 pub port-differs : Difference
 unfolding standardRule
-port-differs t p u = meaning false t p u ∙ difference (levels t) (levels p)
+port-differs t p u = meaning false false t p u ∙ difference (levels t) (levels p)

@@ -12,8 +12,8 @@ use lib.Pow.{pow-pos}
 use lib.ListN.{length, take, drop, replicate, length-drop}
 use lib.Seq.{take-all}
 use Rattle.topics.specs.Hashes.{fnvStep, fnv1a, djbStep, djb2, suffixHash, clientHashes}
-use Rattle.topics.specs.Payload.{streamsOf, leBytes, wordsOf, payloadHash}
-use Rattle.topics.proofs.FoldLaws.{fold-keeps}
+use Rattle.topics.specs.Payload.{streamsOf, leBytes, wordBytes, payloadHash}
+use Rattle.laws.proofs.Folds.{fold-keeps}
 
 -- each hash fits 32 bits
 pub fnv-lt : (s : List ℕ) → fnv1a s < 2 ^ 32
@@ -34,7 +34,7 @@ suffix-lt s = either (leb (length s) 32)
 
 -- the payload hash has 32 bytes
 pub payload-length : (d : List ℕ) → length (payloadHash d) ≡ 32
-unfolding payloadHash wordsOf
+unfolding payloadHash wordBytes
 payload-length [] = refl
 payload-length (b ∷ d) = refl
 
@@ -63,7 +63,7 @@ unfolding payloadHash
 payload-none [] e = refl
 payload-none (b ∷ d) e = absurd (omega arith)
 
-pub payload-some : (d : List ℕ) → (length d ≡ 0 → ⊥) → payloadHash d ≡ wordsOf (streamsOf d)
+pub payload-some : (d : List ℕ) → (length d ≡ 0 → ⊥) → payloadHash d ≡ wordBytes (streamsOf d)
 unfolding payloadHash
 payload-some [] n = absurd (n refl)
 payload-some (b ∷ d) n = refl

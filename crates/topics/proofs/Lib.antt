@@ -1,8 +1,6 @@
 pub mod BitLaws
-pub mod BoolLaws
 pub mod ByteLaws
 pub mod Difference
-pub mod FoldLaws
 pub mod HashLaws
 pub mod LevelLaws
 pub mod MatchLaws
@@ -10,6 +8,5 @@ pub mod Meaning
 pub mod PatternLaws
 pub mod Placed
 pub mod PlacedLaws
-pub mod SameLaws
 pub mod ScanLaws
 pub mod StandardLaws

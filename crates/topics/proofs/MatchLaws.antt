@@ -1,20 +1,20 @@
--- The byte matcher at what is left of a topic and a pattern at an index each: one law for each way through the loops of `level_end` and `matches_with` and
+-- The byte matcher at what is left of a topic and a pattern at an index each: one law for each way through the loop of `walk` and
 -- through `takes_none` and `takes_end`, with the branches' facts as premises. Assumes nothing.
 use mathlib.Core.Bool.{Bool, true, false}
 use mathlib.Core.List.{List, [], _∷_}
-use mathlib.Core.Path.{_≡_}
-use Prim.Native.Nat.{ℕ, _+_, _<_, _≤_}
+use mathlib.Core.Path.{_≡_, refl, sym}
+use Prim.Native.Nat.{ℕ, _+_, _<_, _≤_, min}
+use native.Mathlib.Omega.{arith}
 use borrow.Author.Tests.{eq-eqb, ne-eqb}
 use lib.Dec.{eqb}
 use lib.ListN.{length, drop, getD, drop-of-length-le}
+use lib.Seq.{drop-drop}
 use Rattle.topics.specs.Matching.{fromSlash, takesNone, takesEnd, matchBytes}
-use Rattle.topics.proofs.ByteLaws.{opened}
+use Rattle.laws.proofs.Cases.{by}
+use Rattle.slices.specs.Bytes.{toByte, findByte}
+use Rattle.slices.proofs.bytes.WalkLaws.{opened}
 
 -- at the end of a list each definition knows its answer
-pub slash-end : (s : List ℕ) (i : ℕ) → length s ≤ i → fromSlash (drop i s) ≡ drop i s
-unfolding fromSlash
-slash-end s i l = rw (drop-of-length-le s l)
-
 pub none-end : (p : List ℕ) (j : ℕ) → length p ≤ j → true ≡ takesNone (drop j p)
 unfolding takesNone
 none-end p j l = rw (drop-of-length-le p l)
@@ -28,15 +28,17 @@ unfolding matchBytes takesEnd
 match-end f t [] i l = rw (drop-of-length-le t l)
 match-end f t (c ∷ p) i l = rw (drop-of-length-le t l)
 
--- the search for a slash
-module _ (s : List ℕ) (i : ℕ) (l : i < length s) where
-  pub slash-here : getD s i 0 ≡ 47 → fromSlash (drop i s) ≡ drop i s
-  unfolding fromSlash
-  slash-here e = rw (opened s i l, eq-eqb _ _ e, fromSlash)
+-- the bytes from the first slash on are those from its place on
+slash-to : (l : List ℕ) → drop (toByte 47 l) l ≡ fromSlash l
+unfolding fromSlash toByte
+slash-to [] = refl
+slash-to (c ∷ l) = by (eqb c 47) (λ e. rw (e, fromSlash, toByte)) (λ e. rw (e, fromSlash, toByte) (slash-to l))
 
-  pub slash-on : (getD s i 0 ≡ 47 → ⊥) → fromSlash (drop i s) ≡ fromSlash (drop (i + 1) s)
-  unfolding fromSlash
-  slash-on e = rw (opened s i l, ne-eqb _ _ e, fromSlash)
+pub slash-found : (s : List ℕ) (i : ℕ) {r : ℕ} → i ≤ length s → r ≡ findByte 47 s i → drop r s ≡ fromSlash (drop i s)
+unfolding findByte
+slash-found s i h e =
+    let k : min i (length s) ≡ i = omega arith in
+    rw (e, k, ← slash-to (drop i s)) (sym (drop-drop (toByte 47 (drop i s)) i s))
 
 -- the pattern alone
 module _ (p : List ℕ) (j : ℕ) (l : j < length p) where

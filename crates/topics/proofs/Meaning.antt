@@ -1,16 +1,19 @@
 -- What the byte matcher means: wherever a pattern's wildcards are well placed it answers as the document's definition, level by level. The induction walks the
 -- pattern's bytes, and its flag `fresh` says that a level begins here: mid-level the first levels go on as plain ones. Assumes nothing.
-use mathlib.Core.Bool.{Bool, true, false, _&&_, false≢true, or-true, and-assoc, and-eq-true-iff}
+use mathlib.Core.Bool.{Bool, true, false, not, _&&_, false≢true, or-true, and-assoc, and-eq-true-iff}
 use mathlib.Core.List.{List, [], _∷_}
-use mathlib.Core.Path.{_≡_, refl, sym, _∙_}
+use mathlib.Core.Path.{_≡_, refl, sym, ap, _∙_}
 use Prim.Native.Nat.{ℕ}
 use borrow.Author.Tests.{eqb-true}
 use lib.Dec.{eqb}
-use Rattle.topics.specs.Levels.{firstLevel, restLevels, levels, levelEnds, none, same, isHash, isPlus}
+use Rattle.topics.specs.Levels.{firstLevel, restLevels, levels, levelEnds, isHash, isPlus}
+use Rattle.laws.specs.Lists.{none}
+use Rattle.slices.specs.Bytes.{same, startsWith}
 use Rattle.topics.specs.Patterns.{wellPlaced}
 use Rattle.topics.specs.Meaning.{Meaning}
-use Rattle.topics.specs.Matching.{matchLevels, fromSlash, begins, takesNone, takesEnd, matchBytes}
-use Rattle.topics.proofs.ByteLaws.{by, Sort, slash, hash, plus, other, sort, turned}
+use Rattle.topics.specs.Matching.{matchLevels, fromSlash, takesNone, takesEnd, matchBytes, dollarApart}
+use Rattle.laws.proofs.Cases.{by}
+use Rattle.topics.proofs.ByteLaws.{Sort, slash, hash, plus, other, sort, turned}
 use Rattle.topics.proofs.Placed.{placed, placed-levels}
 
 -- the document's definition, from mid-level too
@@ -53,12 +56,12 @@ not-wild : (w c : ℕ) (p : List ℕ) → eqb c 47 ≡ false → eqb c w ≡ fal
 unfolding firstLevel same
 not-wild w c p s h = rw (s, firstLevel, turned c w h)
 
-begins-hash : (p : List ℕ) → placed true p ≡ true → begins 35 p ≡ isHash (firstLevel p)
+begins-hash : (p : List ℕ) → placed true p ≡ true → startsWith 35 p ≡ isHash (firstLevel p)
 unfolding placed firstLevel same
 begins-hash [] u = refl
 begins-hash (c ∷ p) u = cases (sort c) p u
   where
-    cases : {c : ℕ} → Sort c → (p : List ℕ) → placed true (c ∷ p) ≡ true → begins 35 (c ∷ p) ≡ isHash (firstLevel (c ∷ p))
+    cases : {c : ℕ} → Sort c → (p : List ℕ) → placed true (c ∷ p) ≡ true → startsWith 35 (c ∷ p) ≡ isHash (firstLevel (c ∷ p))
     cases slash p u = refl
     cases hash [] u = refl
     cases hash (d ∷ p) u = absurd (false≢true u)
@@ -140,4 +143,4 @@ meaning-at f fresh (x ∷ t) (c ∷ p) u = each f fresh x t p (sort c) u (λ g s
 
 -- for every topic, and every pattern whose wildcards are well placed
 pub meaning : Meaning
-meaning f t p u = meaning-at f true t p (placed-levels p ∙ u)
+meaning f d t p u = ap (λ (b : Bool). not (d && dollarApart t p) && b) (meaning-at f true t p (placed-levels p ∙ u))

@@ -10,7 +10,7 @@ use lib.Dec.{eqb}
 use lib.ListN.{length, drop, getD, drop-of-length-le}
 use Rattle.topics.specs.Levels.{levelEnds}
 use Rattle.topics.specs.Patterns.{validWildcards}
-use Rattle.topics.proofs.ByteLaws.{opened, none-left}
+use Rattle.slices.proofs.bytes.WalkLaws.{opened, none-left}
 use Rattle.topics.proofs.Placed.{placed, placed-levels}
 
 -- the pattern test, from its start

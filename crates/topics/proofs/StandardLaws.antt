@@ -1,6 +1,6 @@
 -- The standard matcher's three answers: outside its domain 9, inside it the byte matcher's answer, which is the standard's rule level by level.
 -- Assumes nothing.
-use mathlib.Core.Bool.{Bool, true, cond, and-false}
+use mathlib.Core.Bool.{Bool, true, false, cond, and-false}
 use mathlib.Core.List.{List, [], _∷_}
 use mathlib.Core.Path.{_≡_, refl}
 use Prim.Native.Nat.{ℕ}
@@ -9,7 +9,7 @@ use borrow.Author.Tests.{eq-eqb, ne-eqb}
 use lib.Dec.{eqb}
 use lib.ListN.{length}
 use Rattle.topics.specs.Patterns.{patternRefusal}
-use Rattle.topics.specs.Matching.{matchBytes, standardRule, standardMatches}
+use Rattle.topics.specs.Matching.{matchesWith, standardRule, standardMatches}
 use Rattle.topics.specs.declared.matching.StandardMatch.the-variants.{Yes, No, OutsideDomain}
 use Rattle.topics.proofs.Meaning.{meaning}
 use Rattle.topics.proofs.PatternLaws.{accepted-placed}
@@ -26,12 +26,12 @@ outside-name [] p l = rw (and-false (eqb (patternRefusal p) 0))
 outside-name (x ∷ n) p l = absurd (omega arith)
 
 -- what the byte matcher answers of an accepted pattern is the standard's rule
-pub standard-bytes : (n p : List ℕ) → patternRefusal p ≡ 0 → matchBytes true n p ≡ standardRule n p
+pub standard-bytes : (n p : List ℕ) → patternRefusal p ≡ 0 → matchesWith true false n p ≡ standardRule n p
 unfolding standardRule
-standard-bytes n p r = meaning true n p (accepted-placed p r)
+standard-bytes n p r = meaning true false n p (accepted-placed p r)
 
 -- the domain
-pub inside : (n p : List ℕ) {b : Bool} → patternRefusal p ≡ 0 → (length n ≡ 0 → ⊥) → matchBytes true n p ≡ b → cond b Yes No ≡ standardMatches n p
+pub inside : (n p : List ℕ) {b : Bool} → patternRefusal p ≡ 0 → (length n ≡ 0 → ⊥) → matchesWith true false n p ≡ b → cond b Yes No ≡ standardMatches n p
 unfolding standardMatches
 inside [] p r l e = absurd (l refl)
 inside (x ∷ n) p r l e = rw (eq-eqb _ _ r, ← standard-bytes (x ∷ n) p r, e)

@@ -5,8 +5,12 @@
 use mathlib.Core.Bool.{Bool, true, false, cond, not, _&&_, _||_}
 use mathlib.Core.List.{List, [], _∷_}
 use Prim.Native.Nat.{ℕ}
+use Prim.Native.Char.{code}
 use lib.Dec.{eqb}
-use Rattle.topics.specs.Levels.{levels, none, same, isHash, isPlus}
+use Rattle.topics.specs.Levels.{levels, isHash, isPlus}
+use Rattle.laws.specs.Lists.{none}
+use Rattle.slices.specs.Bytes.{same, startsWith}
+use Rattle.topics.specs.Names.{startsWithDollar}
 use Rattle.topics.specs.Patterns.{patternRefusal}
 use Rattle.topics.specs.declared.matching.StandardMatch.{StandardMatch}
 use Rattle.topics.specs.declared.matching.StandardMatch.the-variants.{Yes, No, OutsideDomain}
@@ -30,44 +34,55 @@ matchLevels emptyLast (t ∷ ts) (p ∷ ps) =
 -- the bytes from the first slash on
 unfoldable pub fromSlash : List ℕ → List ℕ
 fromSlash [] = []
-fromSlash (c ∷ s) = elim (eqb c 47) [ true ↦ c ∷ s | false ↦ fromSlash s ]
-
--- a list that begins with a byte
-abbrev pub begins : ℕ → List ℕ → Bool
-begins c [] = false
-begins c (b ∷ bs) = eqb b c
+fromSlash (c ∷ s) = elim (eqb c (code "/")) [ true ↦ c ∷ s | false ↦ fromSlash s ]
 
 -- the rest of a pattern takes no further byte: nothing is left of it, or it goes on with `#` or `/#`
 unfoldable pub takesNone : List ℕ → Bool
 takesNone [] = true
-takesNone (c ∷ p) = elim (eqb c 35) [ true ↦ true | false ↦ eqb c 47 && begins 35 p ]
+takesNone (c ∷ p) = elim (eqb c (code "#")) [ true ↦ true | false ↦ eqb c (code "/") && startsWith (code "#") p ]
 
 -- the rest of a pattern at the topic's end: with `emptyLast` a `+` takes the empty level that stands there
 unfoldable pub takesEnd : Bool → List ℕ → Bool
 takesEnd emptyLast [] = true
-takesEnd emptyLast (c ∷ p) = elim (emptyLast && eqb c 43) [ true ↦ takesNone p | false ↦ takesNone (c ∷ p) ]
+takesEnd emptyLast (c ∷ p) = elim (emptyLast && eqb c (code "+")) [ true ↦ takesNone p | false ↦ takesNone (c ∷ p) ]
 
 -- bytes of a topic under bytes of a pattern, from the left
 unfoldable pub matchBytes : Bool → List ℕ → List ℕ → Bool
 matchBytes emptyLast t [] = none t
 matchBytes emptyLast [] (c ∷ p) = takesEnd emptyLast (c ∷ p)
 matchBytes emptyLast (x ∷ t) (c ∷ p) =
-    elim (eqb c 35) [
+    elim (eqb c (code "#")) [
       | true ↦ true
       | false ↦
-          elim (eqb c 43) [
+          elim (eqb c (code "+")) [
             | true ↦ matchBytes emptyLast (fromSlash (x ∷ t)) p
             | false ↦ eqb c x && matchBytes emptyLast t p
           ]
     ]
 
--- what `topic_matches` answers, on any topic and any pattern
-abbrev pub portMatches : List ℕ → List ℕ → Bool
-portMatches topic pattern = matchBytes false topic pattern
+-- a pattern that begins with a wildcard
+abbrev pub startsWild : List ℕ → Bool
+startsWild pattern = startsWith (code "#") pattern || startsWith (code "+") pattern
 
--- MQTT 3.1.1 section 4.7, level by level. Names that begin with a dollar sign are matched as any other
+-- section 4.7.2: a name that begins with a dollar sign is kept apart from a pattern that begins with a wildcard
+abbrev pub dollarApart : List ℕ → List ℕ → Bool
+dollarApart topic pattern = startsWithDollar topic && startsWild pattern
+
+-- bytes of a topic under bytes of a pattern, by both flags: `emptyLast`, and `dollar` for section 4.7.2
+abbrev pub matchesWith : Bool → Bool → List ℕ → List ℕ → Bool
+matchesWith emptyLast dollar topic pattern = not (dollar && dollarApart topic pattern) && matchBytes emptyLast topic pattern
+
+-- the same level by level, in the document's words
+abbrev pub ruleWith : Bool → Bool → List ℕ → List ℕ → Bool
+ruleWith emptyLast dollar topic pattern = not (dollar && dollarApart topic pattern) && matchLevels emptyLast (levels topic) (levels pattern)
+
+-- what `topic_matches` answers, on any topic and any pattern: the port has neither flag
+abbrev pub portMatches : List ℕ → List ℕ → Bool
+portMatches topic pattern = matchesWith false false topic pattern
+
+-- MQTT 3.1.1 section 4.7, level by level. Names that begin with a dollar sign are matched as any other: the second flag is off until request C-15
 unfoldable pub standardRule : List ℕ → List ℕ → Bool
-standardRule name pattern = matchLevels true (levels name) (levels pattern)
+standardRule name pattern = ruleWith true false name pattern
 
 -- what `standard_matches` answers: its domain is a pattern that `add_rule` takes and a name of at least 1 byte
 unfoldable pub standardMatches : List ℕ → List ℕ → StandardMatch

@@ -6,14 +6,14 @@ use mathlib.Core.Bool.{Bool, true, not, _&&_}
 use mathlib.Core.List.{List}
 use Prim.Native.Nat.{ℕ}
 use Rattle.topics.specs.Levels.{levels}
-use Rattle.topics.specs.Matching.{matchLevels, matchBytes, portMatches, standardRule, plusAtEmptyLast}
+use Rattle.topics.specs.Matching.{matchesWith, ruleWith, portMatches, standardRule, plusAtEmptyLast}
 use Rattle.topics.specs.Patterns.{wellPlaced}
 
--- the byte matcher, with either flag, is the document's definition level by level
+-- the byte matcher, with either of both flags, is the document's definition level by level
 abbrev pub Meaning : Type 0
 Meaning =
-    (emptyLast : Bool) (topic pattern : List ℕ) → wellPlaced (levels pattern) ≡ true
-    → matchBytes emptyLast topic pattern ≡ matchLevels emptyLast (levels topic) (levels pattern)
+    (emptyLast dollar : Bool) (topic pattern : List ℕ) → wellPlaced (levels pattern) ≡ true
+    → matchesWith emptyLast dollar topic pattern ≡ ruleWith emptyLast dollar topic pattern
 
 -- the port's matcher says yes exactly where the standard's rule does (4.7 without 4.7.2's dollar names) and no `+` stands at the topic's last level while that is empty
 abbrev pub Difference : Type 0

@@ -2,14 +2,17 @@
 -- Assumes nothing.
 use mathlib.Core.Bool.{Bool, true, cond, not, _&&_, _||_}
 use mathlib.Core.List.{List, [], _∷_}
-use Prim.Native.Nat.{ℕ, _+_}
-use lib.Dec.{eqb, leb}
+use Prim.Native.Nat.{ℕ}
+use Prim.Native.Char.{code}
+use lib.Dec.{ltb}
 use lib.ListN.{length}
-use Rattle.topics.specs.Levels.{levels, none, has, isHash, isPlus}
+use Rattle.slices.specs.Bytes.{has, countOf}
+use Rattle.topics.specs.Levels.{levels, isHash, isPlus}
+use Rattle.laws.specs.Lists.{none}
 
 -- a level with no wildcard in it
 abbrev pub isPlain : List ℕ → Bool
-isPlain l = not (has 35 l) && not (has 43 l)
+isPlain l = not (has (code "#") l) && not (has (code "+") l)
 
 -- wildcards well placed: `+` alone in its level, `#` alone in its level and last
 unfoldable pub wellPlaced : List (List ℕ) → Bool
@@ -20,17 +23,11 @@ wellPlaced (l ∷ ls) = (isPlain l || isPlus l || (isHash l && none ls)) && well
 unfoldable pub validWildcards : List ℕ → Bool
 validWildcards p = not (none p) && wellPlaced (levels p)
 
--- how often a byte stands in a list
-unfoldable pub countOf : ℕ → List ℕ → ℕ
-countOf c [] = 0
-countOf c (b ∷ bs) = cond (eqb b c) 1 0 + countOf c bs
-
--- the number that refuses a pattern, 0 for none: 1 to 64 bytes, no zero byte, at most three `+`, wildcards well placed
+-- the number that refuses a pattern, 0 for none, in the document's order: 1 to 64 bytes, no zero byte, at most three `+`, wildcards well placed
 unfoldable pub patternRefusal : List ℕ → ℕ
 patternRefusal p =
-    cond (leb 1 (length p) && leb (length p) 64)
+    cond (none p || ltb 64 (length p)) 9
     (cond (has 0 p) 9
-    (cond (leb (countOf 43 p) 3)
-    (cond (wellPlaced (levels p)) 0 9)
-    9))
-    9
+    (cond (ltb 3 (countOf (code "+") p)) 9
+    (cond (not (wellPlaced (levels p))) 9
+    0)))

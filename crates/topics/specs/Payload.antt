@@ -65,12 +65,12 @@ abbrev pub leBytes : ℕ → List ℕ
 leBytes w = w % 256 ∷ w / 256 % 256 ∷ w / 65536 % 256 ∷ w / 16777216 % 256 ∷ []
 
 -- the eight words as bytes
-unfoldable pub wordsOf : Streams → List ℕ
-wordsOf s =
+unfoldable pub wordBytes : Streams → List ℕ
+wordBytes s =
     leBytes (s .h1) ++ leBytes (word2 s) ++ leBytes (s .h3) ++ leBytes (word4 s) ++ leBytes (word5 s) ++ leBytes (word6 s)
     ++ leBytes (s .h7) ++ leBytes (word8 s)
 
 -- the payload hash
 unfoldable pub payloadHash : List ℕ → List ℕ
 payloadHash [] = replicate 32 0
-payloadHash (b ∷ d) = wordsOf (streamsOf (b ∷ d))
+payloadHash (b ∷ d) = wordBytes (streamsOf (b ∷ d))

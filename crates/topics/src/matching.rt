@@ -1,31 +1,19 @@
-// The two matchers (document 01, "Topics, level by level"; 000 `topic_matches`). One walk over the bytes serves both; `empty_last` is the one difference.
+// The two matchers (document 01, "Topics, level by level"; 000 `topic_matches`). One function serves both by two flags: `empty_last`, under which a `+` takes an empty level that is the
+// topic's last, and `dollar`, under which a leading wildcard takes no name that begins with a dollar sign (off until request C-15).
+use crate::names::starts_with_dollar;
 use crate::patterns::pattern_refusal;
+use slices::bytes::find_byte;
+ghost use mathlib.Core.Bool.{_&&_};
 ghost use mathlib.Core.Path.{_≡_};
 ghost use Prim.Native.Nat.{_+_, _-_, _≤_};
 ghost use lib.ListN.{length, drop};
-ghost use Rattle.topics.specs.Matching.{fromSlash, takesNone, takesEnd, matchBytes, portMatches, standardMatches, matchNumber};
+ghost use Rattle.topics.specs.Matching.{startsWild, dollarApart, takesNone, takesEnd, matchBytes, matchesWith, portMatches, standardMatches, matchNumber};
 
 // What the standard matcher answers.
 pub enum StandardMatch {
     Yes,
     No,
     OutsideDomain,
-}
-
-// The place of the first slash from `from` on, or the end.
-fn level_end(topic: &[u8], from: usize) -> usize
-    requires { ⌜ from ≤ length (now topic) ⌝ }
-    ensures rest { λ r. ⌜ drop r (now (topic .entry)) ≡ fromSlash (drop from (now (topic .entry))) ⌝ }
-    ensures within { λ r. ⌜ r ≤ length (now (topic .entry)) ⌝ }
-{
-    let mut i = from;
-    while i < topic.len() {
-        if topic[i] == b'/' {
-            return i;
-        }
-        i += 1;
-    }
-    i
 }
 
 // The rest of the pattern takes no further byte.
@@ -69,7 +57,7 @@ fn takes_end(pattern: &[u8], at: usize, empty_last: bool) -> bool
 
 // The walk over both: `#` takes the rest, `+` goes to the end of the topic's level, any other byte takes an equal one; at the topic's end `takes_end` decides.
 // The Rust looks ahead after a `+`; the next turns answer the same.
-fn matches_with(topic: &[u8], pattern: &[u8], empty_last: bool) -> bool
+fn walk(topic: &[u8], pattern: &[u8], empty_last: bool) -> bool
     ensures { λ r. ⌜ r ≡ matchBytes «empty_last» (now (topic .entry)) (now (pattern .entry)) ⌝ }
 {
     let mut ti = 0;
@@ -84,7 +72,7 @@ fn matches_with(topic: &[u8], pattern: &[u8], empty_last: bool) -> bool
             return true;
         }
         if c == b'+' {
-            ti = level_end(topic, ti);
+            ti = find_byte(topic, ti, b'/');
             pi = next;
         } else {
             if c != topic[ti] {
@@ -97,11 +85,48 @@ fn matches_with(topic: &[u8], pattern: &[u8], empty_last: bool) -> bool
     takes_end(pattern, pi, empty_last)
 }
 
+// A pattern that begins with a wildcard.
+fn starts_wild(pattern: &[u8]) -> bool
+    ensures { λ r. ⌜ r ≡ startsWild (now (pattern .entry)) ⌝ }
+{
+    if pattern.len() == 0 {
+        return false;
+    }
+    let c = pattern[0];
+    if c == b'#' {
+        return true;
+    }
+    c == b'+'
+}
+
+// A name that MQTT 3.1.1 section 4.7.2 keeps apart from a pattern, where that is asked.
+fn kept_apart(topic: &[u8], pattern: &[u8], dollar: bool) -> bool
+    ensures { λ r. ⌜ r ≡ (dollar && dollarApart (now (topic .entry)) (now (pattern .entry))) ⌝ }
+{
+    if !dollar {
+        return false;
+    }
+    if !starts_with_dollar(topic) {
+        return false;
+    }
+    starts_wild(pattern)
+}
+
+// A topic under a pattern, by both flags: the crates above choose them.
+pub fn matches_with(topic: &[u8], pattern: &[u8], empty_last: bool, dollar: bool) -> bool
+    ensures { λ r. ⌜ r ≡ matchesWith «empty_last» dollar (now (topic .entry)) (now (pattern .entry)) ⌝ }
+{
+    if kept_apart(topic, pattern, dollar) {
+        return false;
+    }
+    walk(topic, pattern, empty_last)
+}
+
 // The port: as the Rust answers, on any pattern. Its `+` refuses an empty level that is the topic's last.
 pub fn topic_matches(topic: &[u8], pattern: &[u8]) -> bool
     ensures { λ r. ⌜ r ≡ portMatches (now (topic .entry)) (now (pattern .entry)) ⌝ }
 {
-    matches_with(topic, pattern, false)
+    matches_with(topic, pattern, false, false)
 }
 
 // The standard: MQTT 3.1.1 section 4.7 without 4.7.2 (dollar names), for a pattern that `add_rule` takes and a name of at least 1 byte.
@@ -114,7 +139,7 @@ pub fn standard_matches(name: &[u8], pattern: &[u8]) -> StandardMatch
     if name.len() == 0 {
         return StandardMatch::OutsideDomain;
     }
-    if matches_with(name, pattern, true) {
+    if matches_with(name, pattern, true, false) {
         StandardMatch::Yes
     } else {
         StandardMatch::No

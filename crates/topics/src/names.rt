@@ -1,5 +1,5 @@
 // Three small tests on a topic's bytes (document 01, "Order inside one inspection"; 000, the same names).
-use crate::patterns::same_bytes;
+use slices::bytes::same_bytes;
 ghost use mathlib.Core.List.{[], _∷_};
 ghost use mathlib.Core.Path.{_≡_};
 ghost use Rattle.topics.specs.Names.{isBroad, startsWithDollar, badPublish};

@@ -1,55 +1,10 @@
 // Which patterns a rule may have (document 01, `add_rule`; 000 `validate_mqtt_wildcard` and the tests of `add_rule`).
+use slices::bytes::count_byte;
+use slices::bytes::has_byte;
 ghost use mathlib.Core.Path.{_≡_};
 ghost use lib.ListN.{drop};
-ghost use Rattle.topics.specs.Levels.{levelEnds, same, has};
-ghost use Rattle.topics.specs.Patterns.{validWildcards, countOf, patternRefusal};
-
-// Equal bytes, equally many.
-pub fn same_bytes(a: &[u8], b: &[u8]) -> bool
-    ensures { λ r. ⌜ r ≡ same (now (a .entry)) (now (b .entry)) ⌝ }
-{
-    if a.len() != b.len() {
-        return false;
-    }
-    let mut i = 0;
-    while i < a.len() {
-        if a[i] != b[i] {
-            return false;
-        }
-        i += 1;
-    }
-    true
-}
-
-// The byte `c` stands somewhere in `s`.
-fn has_byte(s: &[u8], c: u8) -> bool
-    ensures { λ r. ⌜ r ≡ has c (now (s .entry)) ⌝ }
-{
-    let mut i = 0;
-    while i < s.len() {
-        if s[i] == c {
-            return true;
-        }
-        i += 1;
-    }
-    false
-}
-
-// How often the byte `c` stands in `s`.
-fn count_byte(s: &[u8], c: u8) -> usize
-    ensures { λ r. ⌜ r ≡ countOf c (now (s .entry)) ⌝ }
-{
-    let mut n: usize = 0;
-    let mut i = 0;
-    while i < s.len() {
-        let next = i + 1;
-        if s[i] == c {
-            n += 1;
-        }
-        i = next;
-    }
-    n
-}
+ghost use Rattle.topics.specs.Levels.{levelEnds};
+ghost use Rattle.topics.specs.Patterns.{validWildcards, patternRefusal};
 
 // A level ends before this place: at the pattern's end or at a slash.
 fn level_ends(pattern: &[u8], i: usize) -> bool
@@ -92,6 +47,10 @@ pub fn validate_mqtt_wildcard(pattern: &[u8]) -> bool
     true
 }
 
+// How long a pattern may be, and how many `+` it may have.
+pub const PATTERN_MAX: usize = 64;
+const PLUS_MAX: usize = 3;
+
 // 0, or the number that refuses the pattern: what `add_rule`, number 10 and the standard matcher's domain go by.
 pub fn pattern_refusal(pattern: &[u8]) -> u32
     ensures { λ r. ⌜ r ≡ patternRefusal (now (pattern .entry)) ⌝ }
@@ -99,13 +58,13 @@ pub fn pattern_refusal(pattern: &[u8]) -> u32
     if pattern.len() == 0 {
         return 9;
     }
-    if 64 < pattern.len() {
+    if PATTERN_MAX < pattern.len() {
         return 9;
     }
     if has_byte(pattern, 0) {
         return 9;
     }
-    if 3 < count_byte(pattern, b'+') {
+    if PLUS_MAX < count_byte(pattern, b'+') {
         return 9;
     }
     if !validate_mqtt_wildcard(pattern) {

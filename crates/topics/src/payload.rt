@@ -4,7 +4,7 @@ use crate::hashes::wrapping_mul32;
 ghost use mathlib.Core.List.{_++_};
 ghost use mathlib.Core.Path.{_≡_};
 ghost use Prim.Native.Nat.{_<_};
-ghost use Rattle.topics.specs.Payload.{rotl, streamsStart, streamsStep, streamsOf, word2, word4, word5, word6, word8, leBytes, wordsOf, payloadHash};
+ghost use Rattle.topics.specs.Payload.{rotl, streamsStart, streamsStep, streamsOf, word2, word4, word5, word6, word8, leBytes, wordBytes, payloadHash};
 
 // The five streams, named as in the Rust.
 pub struct Streams {
@@ -150,8 +150,8 @@ fn le_words(a: u32, b: u32, c: u32, d: u32, e: u32, f: u32, g: u32, h: u32) -> [
 }
 
 // The eight words, least byte first.
-fn words_of(s: Streams) -> [u8; 32]
-    ensures { λ r. ⌜ r ≡ wordsOf s ⌝ }
+fn word_bytes(s: Streams) -> [u8; 32]
+    ensures { λ r. ⌜ r ≡ wordBytes s ⌝ }
 {
     le_words(
         s.h1,
@@ -172,5 +172,5 @@ pub fn compute_payload_hash(bytes: &[u8]) -> [u8; 32]
     if bytes.len() == 0 {
         return [0; 32];
     }
-    words_of(streams_of(bytes))
+    word_bytes(streams_of(bytes))
 }

@@ -11,10 +11,11 @@ use Rattle.topics.specs.Matching.{portMatches}
 use Rattle.monitor.specs.Inspect.{applied, resultOf, doneWith}
 use Rattle.monitor.specs.Prepared.{Prepared, made, rule}
 use Rattle.monitor.specs.Runs.{Call, Exact, answer, after, replies, isInspected}
-use Rattle.monitor.specs.State.{every, wellFormed}
+use Rattle.laws.specs.Lists.{every}
+use Rattle.monitor.specs.State.{wellFormed}
 use Rattle.monitor.specs.declared.inspection.Inspected.{Inspected}
 use Rattle.monitor.specs.declared.state.MqttMonitor.{MqttMonitor}
-use Rattle.monitor.proofs.FoundLaws.{either}
+use Rattle.laws.proofs.Cases.{whichever}
 use Rattle.monitor.proofs.KeptFormed.{applied-formed}
 use Rattle.monitor.proofs.Prepared.{prepared-sound}
 use Rattle.monitor.proofs.Replies.{exact-done}
@@ -29,14 +30,14 @@ use Rattle.trace.proofs.RunLaws.{sentAt}
 -- only rules are added to a fresh monitor
 rule-prepared : (m : MqttMonitor) (s : List ℕ) (line : ℕ) (r : RuleLines) → Prepared m → Prepared (ruleInto m s line r .monitor)
 unfolding ruleInto
-rule-prepared m s line r p = either (λ (l : Loaded). Prepared (l .monitor)) (eqb (r .number) 0) (rule p _ _ _ _) p
+rule-prepared m s line r p = whichever (λ (l : Loaded). Prepared (l .monitor)) (eqb (r .number) 0) (rule p _ _ _ _) p
 
 rules-prepared : (k : ℕ) (s : List ℕ) (l : Loaded) → Prepared (l .monitor) → Prepared (rulesInto k s l .monitor)
 unfolding rulesInto
 rules-prepared zero s l p = p
 rules-prepared (suc k) s l p =
     let next : Loaded = ruleInto (l .monitor) s (l .line) (ruleAt s (l .next)) in
-    either (λ (x : Loaded). Prepared (x .monitor)) (eqb (l .number) 0)
+    whichever (λ (x : Loaded). Prepared (x .monitor)) (eqb (l .number) 0)
     (rules-prepared k s next (rule-prepared (l .monitor) s (l .line) (ruleAt s (l .next)) p))
     p
 
@@ -44,8 +45,8 @@ pub loaded-prepared : (s : List ℕ) → Prepared (loaded s .monitor)
 unfolding loaded loadedFrom
 loaded-prepared s =
     let o = openingOf s in
-    either (λ (l : Loaded). Prepared (l .monitor)) (leb (length s) 65536)
-    (either (λ (l : Loaded). Prepared (l .monitor)) (eqb (o .number) 0)
+    whichever (λ (l : Loaded). Prepared (l .monitor)) (leb (length s) 65536)
+    (whichever (λ (l : Loaded). Prepared (l .monitor)) (eqb (o .number) 0)
     (rules-prepared (o .rules) s _ (made (o .«default_action»)))
     (made _))
     (made _)
@@ -64,8 +65,8 @@ from-exact : (k : ℕ) (s : List ℕ) (at line : ℕ) → AllExact (messagesFrom
 unfolding messagesFrom
 from-exact zero s at line = tt
 from-exact (suc k) s at line =
-    either (λ (x : Messages). AllExact (x .sent)) (leb (length s) at) tt
-    (either (λ (x : Messages). AllExact (x .sent)) (eqb (messageAt s at .number) 0)
+    whichever (λ (x : Messages). AllExact (x .sent)) (leb (length s) at) tt
+    (whichever (λ (x : Messages). AllExact (x .sent)) (eqb (messageAt s at .number) 0)
     (exact-at s at, from-exact k s (messageAt s at .next) (line + 7))
     tt)
 
@@ -73,7 +74,7 @@ from-exact (suc k) s at line =
 pub messages-exact : (s : List ℕ) → AllExact (messagesOf s .sent)
 unfolding messagesOf
 messages-exact s =
-    either (λ (x : Messages). AllExact (x .sent)) (eqb (loaded s .number) 0) (from-exact (length s + 1) s (loaded s .next) (loaded s .line)) tt
+    whichever (λ (x : Messages). AllExact (x .sent)) (eqb (loaded s .number) 0) (from-exact (length s + 1) s (loaded s .next) (loaded s .line)) tt
 
 module _ (m : MqttMonitor) (c : Call) (w : wellFormed m ≡ true) (e : Exact c) where
   -- `inspect` applies the plan

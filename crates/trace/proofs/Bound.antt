@@ -9,20 +9,21 @@ use native.Mathlib.Omega.{arith}
 use lib.Dec.{eqb, leb, ltb}
 use lib.ListN.{length, length-append}
 use borrow.Author.Tests.{eqb-true, eqb-false, leb-true, leb-false}
-use Rattle.topics.specs.Levels.{levels, has}
+use Rattle.topics.specs.Levels.{levels}
+use Rattle.slices.specs.Bytes.{has, countOf}
 use Rattle.topics.specs.Matching.{portMatches}
-use Rattle.topics.specs.Patterns.{wellPlaced, countOf, patternRefusal}
-use Rattle.lines.proofs.Cases.{by}
+use Rattle.topics.specs.Patterns.{wellPlaced, patternRefusal}
+use Rattle.laws.proofs.Cases.{by, whichever}
 use Rattle.tables.specs.declared.rules.QosPolicy.{QosPolicy}
 use Rattle.tables.specs.declared.rules.TopicAction.{TopicAction}
 use Rattle.tables.specs.declared.rules.TopicRule.{TopicRule}
-use Rattle.monitor.specs.Calls.{fresh, tested, isHeld, rulePlan, addRule}
+use Rattle.monitor.specs.Calls.{fresh, tested, addRule}
+use Rattle.tables.specs.Rules.{isHeld, rulePlan}
 use Rattle.monitor.specs.Runs.{Call}
 use Rattle.monitor.specs.State.{wellFormed, numberOf}
-use Rattle.monitor.specs.declared.rule_calls.RulePlan.{RulePlan}
+use Rattle.tables.specs.declared.rules.RulePlan.{RulePlan}
 use Rattle.monitor.specs.declared.state.Called.{Called}
 use Rattle.monitor.specs.declared.state.MqttMonitor.{MqttMonitor}
-use Rattle.monitor.proofs.FoundLaws.{either}
 use Rattle.trace.specs.Groups.{openingOf, ruleAt, messageAt}
 use Rattle.trace.specs.Trace.{Loaded, Messages, ruleInto, rulesInto, loadedFrom, loaded, messagesFrom, messagesOf, textFrom, traceText, enough}
 use Rattle.trace.proofs.RecordLaws.{closing-short}
@@ -64,31 +65,31 @@ sent-few (suc k) s at line =
 add-counted : (m : MqttMonitor) (p : List ℕ) (action : TopicAction) (policy : QosPolicy) (rate : ℕ) → Counted m → Counted (addRule m p action policy rate .monitor)
 unfolding addRule
 add-counted m p action policy rate c =
-    either (λ (x : Called). Counted (x .monitor)) (eqb (tested m (rulePlan (m .rules) (m .«rule_count») p action policy rate .number)) 0)
+    whichever (λ (x : Called). Counted (x .monitor)) (eqb (tested m (rulePlan (m .rules) (m .«rule_count») p action policy rate .number)) 0)
     (record { id64 = c .id64; inspected64 = c .inspected64; total64 = c .total64 })
     c
 
 pattern-known : (p : List ℕ) → patternRefusal p ≤ 27
 unfolding patternRefusal
 pattern-known p =
-    either (λ (n : ℕ). n ≤ 27) (leb 1 (length p) && leb (length p) 64)
-    (either (λ (n : ℕ). n ≤ 27) (has 0 p) (omega arith)
-    (either (λ (n : ℕ). n ≤ 27) (leb (countOf 43 p) 3) (either (λ (n : ℕ). n ≤ 27) (wellPlaced (levels p)) (omega arith) (omega arith)) (omega arith)))
+    whichever (λ (n : ℕ). n ≤ 27) (leb 1 (length p) && leb (length p) 64)
+    (whichever (λ (n : ℕ). n ≤ 27) (has 0 p) (omega arith)
+    (whichever (λ (n : ℕ). n ≤ 27) (leb (countOf 43 p) 3) (whichever (λ (n : ℕ). n ≤ 27) (wellPlaced (levels p)) (omega arith) (omega arith)) (omega arith)))
     (omega arith)
 
 plan-known : (rules : List TopicRule) (n : ℕ) (p : List ℕ) (action : TopicAction) (policy : QosPolicy) (rate : ℕ) → rulePlan rules n p action policy rate .number ≤ 27
 unfolding rulePlan
 plan-known rules n p action policy rate =
-    either (λ (d : RulePlan). d .number ≤ 27) (eqb (patternRefusal p) 0)
-    (either (λ (d : RulePlan). d .number ≤ 27) (isHeld rules n p) (omega arith) (either (λ (d : RulePlan). d .number ≤ 27) (ltb n 32) (omega arith) (omega arith)))
+    whichever (λ (d : RulePlan). d .number ≤ 27) (eqb (patternRefusal p) 0)
+    (whichever (λ (d : RulePlan). d .number ≤ 27) (isHeld rules n p) (omega arith) (whichever (λ (d : RulePlan). d .number ≤ 27) (ltb n 32) (omega arith) (omega arith)))
     (pattern-known p)
 
 add-known : (m : MqttMonitor) (p : List ℕ) (action : TopicAction) (policy : QosPolicy) (rate : ℕ) → numberOf (addRule m p action policy rate .outcome) ≤ 27
 unfolding addRule
 add-known m p action policy rate =
     let d = rulePlan (m .rules) (m .«rule_count») p action policy rate in
-    either (λ (x : Called). numberOf (x .outcome) ≤ 27) (eqb (tested m (d .number)) 0) (omega arith)
-    (either (λ (n : ℕ). n ≤ 27) (wellFormed m) (plan-known (m .rules) (m .«rule_count») p action policy rate) (omega arith))
+    whichever (λ (x : Called). numberOf (x .outcome) ≤ 27) (eqb (tested m (d .number)) 0) (omega arith)
+    (whichever (λ (n : ℕ). n ≤ 27) (wellFormed m) (plan-known (m .rules) (m .«rule_count») p action policy rate) (omega arith))
 
 -- what was loaded, after at most so many lines
 pub record Few (l : Loaded) (lines : ℕ) : Type 0 where
@@ -100,7 +101,7 @@ rule-few : (m : MqttMonitor) (s : List ℕ) (line at : ℕ) → Counted m → Fe
 unfolding ruleInto
 rule-few m s line at c =
     let w = rule-within s at refl in
-    either (λ (l : Loaded). Few l (line + 4)) (eqb (ruleAt s at .number) 0)
+    whichever (λ (l : Loaded). Few l (line + 4)) (eqb (ruleAt s at .number) 0)
     (record { counted = add-counted m _ _ _ _ c; known = add-known m _ _ _ _; line = omega arith })
     (record { counted = c; known = omega (arith, w .known); line = omega (arith, w .line) })
 
@@ -110,7 +111,7 @@ rules-few zero s l lines f = record { counted = f .counted; known = f .known; li
 rules-few (suc k) s l lines f =
     let r = rule-few (l .monitor) s (l .line) (l .next) (f .counted) in
     let g = rules-few k s (ruleInto (l .monitor) s (l .line) (ruleAt s (l .next))) (l .line + 4) r in
-    either (λ (x : Loaded). Few x (lines + 4 * suc k)) (eqb (l .number) 0)
+    whichever (λ (x : Loaded). Few x (lines + 4 * suc k)) (eqb (l .number) 0)
     (record { counted = g .counted; known = g .known; line = omega (arith, g .line, f .line) })
     (record { counted = f .counted; known = f .known; line = omega (arith, f .line) })
 
@@ -122,8 +123,8 @@ pub loaded-few : (s : List ℕ) → Few (loaded s) 130
 unfolding loaded loadedFrom
 loaded-few s =
     let w = opening-within s refl in
-    either (λ (l : Loaded). Few l 130) (leb (length s) 65536)
-    (either (λ (l : Loaded). Few l 130) (eqb (openingOf s .number) 0)
+    whichever (λ (l : Loaded). Few l 130) (leb (length s) 65536)
+    (whichever (λ (l : Loaded). Few l 130) (eqb (openingOf s .number) 0)
     (let start : Loaded = record { number = 0; line = 2; next = openingOf s .next; monitor = fresh (openingOf s .«default_action») } in
     let r = rules-few (openingOf s .rules) s start 2 (record { counted = fresh-counted _; known = omega arith; line = omega arith }) in
     record { counted = r .counted; known = r .known; line = omega (arith, r .line, w .count) })

@@ -6,14 +6,13 @@ use mathlib.Core.List.{List}
 use native.Mathlib.Omega.{arith}
 use lib.ListN.{length, take, length-take, length-drop}
 use borrow.Author.Tests.{eq-eqb}
-use Rattle.lines.specs.Bytes.{bytes}
+use Rattle.slices.specs.Bytes.{bytes}
 use Rattle.lines.specs.Field.{hexField, valueOf, hexKept}
 use Rattle.lines.specs.ReadHex.{unhex}
 use Rattle.lines.specs.Span.{part}
 use Rattle.lines.proofs.HexRound.{unhex-length}
 use Rattle.lines.proofs.KeptLaws.{kept-bytes, kept-long}
-use Rattle.trace.specs.Groups.{rule4, ruleAt, patternIn, patternKept, message7, messageAt, topicIn, payloadIn}
-use Rattle.trace.specs.Groups.{topic1, topic2, topic3, topic4, topicKept, payload1, payload2, payload3, payload4, payload5, payload6, payloadKept}
+use Rattle.trace.specs.Groups.{rule4, ruleAt, patternIn, patternKept, message7, messageAt, topicIn, payloadIn, topic1, topic2, topic3, topic4, topicKept, payload1, payload2, payload3, payload4, payload5, payload6, payloadKept}
 use Rattle.trace.specs.declared.groups.MessageLines.{MessageLines}
 use Rattle.trace.specs.declared.groups.RuleLines.{RuleLines}
 use Rattle.trace.proofs.LineBounds.{hex-value}

@@ -10,19 +10,19 @@ use native.Mathlib.Numerals.{sub-one}
 use lib.Dec.{eqb, leb}
 use lib.ListN.{length, set, replicate}
 use borrow.Author.Tests.{eq-eqb, ne-eqb, le-leb, lt-leb}
-use Rattle.tables.specs.Rules.{emptyRule}
+use Rattle.tables.specs.Rules.{emptyRule, rulePlan}
 use Rattle.tables.specs.declared.rules.TopicAction.{TopicAction}
 use Rattle.tables.specs.declared.rules.TopicAction.the-variants.{Allow}
 use Rattle.tables.specs.declared.rules.TopicRule.{TopicRule}
-use Rattle.monitor.specs.Calls.{fresh, rulePlan, addRule}
+use Rattle.monitor.specs.Calls.{fresh, addRule}
 use Rattle.monitor.specs.Sound.{Sound}
 use Rattle.monitor.specs.State.{withRules}
-use Rattle.monitor.specs.declared.rule_calls.RulePlan.{RulePlan}
+use Rattle.tables.specs.declared.rules.RulePlan.{RulePlan}
 use Rattle.monitor.specs.declared.state.MqttMonitor.{MqttMonitor}
 use Rattle.monitor.proofs.AddLaws.{add-number, add-takes, add-leaves}
 use Rattle.monitor.proofs.PlainLaws.{holding, no-rules, Plain, fresh-plain, add-plain}
 use Rattle.monitor.proofs.SoundCalls.{sound-fresh, sound-add}
-use Rattle.monitor.proofs.FoundLaws.{either}
+use Rattle.laws.proofs.Cases.{whichever}
 use Rattle.trace.specs.Groups.{openingOf, ruleAt, patternIn}
 use Rattle.trace.specs.Trace.{Loaded, notLoaded, ruleInto, rulesInto, loadedFrom, loaded, rulesOf}
 use Rattle.trace.specs.declared.groups.OpeningLines.{OpeningLines}
@@ -45,13 +45,13 @@ rules-turn (suc k) s l h z = rw (eq-eqb _ _ z, sub-one)
 -- only rules are added to a fresh monitor
 rule-plain : (m : MqttMonitor) (s : List ℕ) (line : ℕ) (r : RuleLines) → Plain m → Plain (ruleInto m s line r .monitor)
 unfolding ruleInto
-rule-plain m s line r h = either (λ (l : Loaded). Plain (l .monitor)) (eqb (r .number) 0) (add-plain m _ _ _ _ h) h
+rule-plain m s line r h = whichever (λ (l : Loaded). Plain (l .monitor)) (eqb (r .number) 0) (add-plain m _ _ _ _ h) h
 
 rules-plain : (k : ℕ) (s : List ℕ) (l : Loaded) → Plain (l .monitor) → Plain (rulesInto k s l .monitor)
 unfolding rulesInto
 rules-plain zero s l h = h
 rules-plain (suc k) s l h =
-    either (λ (x : Loaded). Plain (x .monitor)) (eqb (l .number) 0)
+    whichever (λ (x : Loaded). Plain (x .monitor)) (eqb (l .number) 0)
     (rules-plain k s (ruleInto (l .monitor) s (l .line) (ruleAt s (l .next))) (rule-plain (l .monitor) s (l .line) (ruleAt s (l .next)) h))
     h
 
@@ -59,8 +59,8 @@ rules-plain (suc k) s l h =
 pub loaded-monitor : (s : List ℕ) → withRules (fresh (loaded s .monitor .«default_action»)) (loaded s .monitor .rules) (loaded s .monitor .«rule_count») ≡ loaded s .monitor
 unfolding loaded loadedFrom
 loaded-monitor s =
-    either (λ (l : Loaded). Plain (l .monitor)) (leb (length s) 65536)
-    (either (λ (l : Loaded). Plain (l .monitor)) (eqb (openingOf s .number) 0)
+    whichever (λ (l : Loaded). Plain (l .monitor)) (leb (length s) 65536)
+    (whichever (λ (l : Loaded). Plain (l .monitor)) (eqb (openingOf s .number) 0)
     (rules-plain (openingOf s .rules) s (notLoaded 0 2 (openingOf s .next) (fresh (openingOf s .«default_action»))) (fresh-plain _))
     (fresh-plain _))
     (fresh-plain _)

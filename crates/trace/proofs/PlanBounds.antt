@@ -10,7 +10,7 @@ use lib.ListN.{length, take, set, length-append, length-set, length-take}
 use borrow.Author.Tests.{ltb-true, ne-eqb}
 use Rattle.topics.specs.Payload.{payloadHash}
 use Rattle.topics.proofs.HashLaws.{payload-length}
-use Rattle.lines.proofs.Cases.{by, by-le}
+use Rattle.laws.proofs.Cases.{by, by-le, whichever}
 use Rattle.monitor.specs.Alerts.{denies, hashOf, when, kindsOf, noAlert, noneRaised, raise, raiseAll}
 use Rattle.monitor.specs.Inspect.{applied, resultOf}
 use Rattle.monitor.specs.Plan.{planFrom, planOf}
@@ -19,7 +19,7 @@ use Rattle.monitor.specs.declared.alerts.Raised.{Raised}
 use Rattle.monitor.specs.declared.alerts.SecurityAlert.{SecurityAlert}
 use Rattle.monitor.specs.declared.message.MqttMessage.{MqttMessage}
 use Rattle.monitor.specs.declared.state.MqttMonitor.{MqttMonitor}
-use Rattle.monitor.proofs.FoundLaws.{Settled, either, found-settled}
+use Rattle.monitor.proofs.FoundLaws.{Settled, found-settled}
 use Rattle.trace.specs.Record.{alertsText, recordText}
 use Rattle.trace.proofs.RecordLaws.{Typed, alert-short, record-short}
 
@@ -111,9 +111,9 @@ module _ (hash : List ℕ) (long : length hash ≡ 32) (time : ℕ) where
         long = simp length-set (b .long);
         typed =
             all-set (r .count)
-            (record { id64 = b .id64; kind32 = omega arith; hash32 = either (λ (l : List ℕ). length l ≡ 32) (eqb k 3 || eqb k 7) long refl })
+            (record { id64 = b .id64; kind32 = omega arith; hash32 = whichever (λ (l : List ℕ). length l ≡ 32) (eqb k 3 || eqb k 7) long refl })
             (b .typed);
-        id64 = either (λ (n : ℕ). n < 2 ^ 64) (eqb ((r .«next_id» + 1) % 2 ^ 64) 0) (omega arith) (omega arith);
+        id64 = whichever (λ (n : ℕ). n < 2 ^ 64) (eqb ((r .«next_id» + 1) % 2 ^ 64) 0) (omega arith) (omega arith);
         total64 = omega arith;
       }))
       (λ t. rw t b)

@@ -8,7 +8,7 @@ use native.Mathlib.Omega.{arith}
 use native.Mathlib.Numerals.{add-one}
 use lib.ListN.{length, take, getD, length-append, length-map}
 use lib.Seq.{take-suc, take-all}
-use Rattle.lines.specs.Bytes.{bytes}
+use Rattle.slices.specs.Bytes.{bytes}
 use Rattle.lines.specs.Decimal.{decimal}
 use Rattle.lines.specs.Line.{numberLine, flagLine, hexLine, capped}
 use Rattle.lines.proofs.DecimalLaws.{decimal-short, decimal-20}

@@ -12,7 +12,7 @@ use lib.Seq.{sets, length-sets}
 use borrow.Author.Tests.{eqb-true, eq-eqb, ne-eqb, le-leb, lt-leb, leb-false}
 use Rattle.topics.specs.Matching.{portMatches}
 use Rattle.lines.specs.Wrote.{Wrote, placeAfter}
-use Rattle.lines.proofs.Cases.{by}
+use Rattle.laws.proofs.Cases.{by}
 use Rattle.lines.proofs.WroteLaws.{wrote-then}
 use Rattle.monitor.specs.Calls.{fresh}
 use Rattle.monitor.specs.Inspect.{applied, resultOf}

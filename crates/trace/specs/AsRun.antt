@@ -9,7 +9,7 @@ use Prim.Native.Nat.{ℕ, _+_}
 use Rattle.topics.specs.Matching.{portMatches}
 use Rattle.monitor.specs.Prepared.{Prepared}
 use Rattle.monitor.specs.Runs.{Reply, replies, after, isInspected}
-use Rattle.monitor.specs.State.{every}
+use Rattle.laws.specs.Lists.{every}
 use Rattle.monitor.specs.declared.state.MqttMonitor.{MqttMonitor}
 use Rattle.trace.specs.Record.{recordText, closingText}
 use Rattle.trace.specs.Trace.{loaded, messagesOf, traceText}

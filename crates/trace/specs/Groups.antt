@@ -7,7 +7,7 @@ use mathlib.Core.List.{List}
 use Prim.Native.Nat.{ℕ, _≤_}
 use lib.Dec.{eqb}
 use lib.ListN.{length}
-use Rattle.lines.specs.Bytes.{bytes}
+use Rattle.slices.specs.Bytes.{bytes}
 use Rattle.lines.specs.Field.{numberField, wordField, hexField, hexKept}
 use Rattle.lines.specs.ReadHex.{unhex}
 use Rattle.lines.specs.Span.{part}
@@ -20,49 +20,10 @@ use Rattle.tables.specs.declared.rules.TopicAction.{TopicAction}
 use Rattle.tables.specs.declared.rules.TopicAction.the-variants.{Allow, Block}
 use Rattle.monitor.specs.declared.message.MqttMessage.{MqttMessage}
 use Rattle.monitor.specs.declared.message.MqttPacketType.{MqttPacketType}
-use Rattle.monitor.specs.declared.message.MqttPacketType.the-variants.{Connect, ConnAck, Publish, PubAck, PubRec, PubRel, PubComp}
-use Rattle.monitor.specs.declared.message.MqttPacketType.the-variants.{Subscribe, SubAck, Unsubscribe, UnsubAck, PingReq, PingResp, Disconnect, Auth}
+use Rattle.monitor.specs.declared.message.MqttPacketType.the-variants.{Connect, ConnAck, Publish, PubAck, PubRec, PubRel, PubComp, Subscribe, SubAck, Unsubscribe, UnsubAck, PingReq, PingResp, Disconnect, Auth}
 use Rattle.trace.specs.declared.groups.OpeningLines.{OpeningLines}
 use Rattle.trace.specs.declared.groups.RuleLines.{RuleLines}
 use Rattle.trace.specs.declared.groups.MessageLines.{MessageLines}
-
--- the word `allow` or `block` at its place in `allow|block`
-abbrev pub actionAt : ℕ → TopicAction
-actionAt k = cond (eqb k 0) Allow Block
-
--- a QoS level's number
-abbrev pub qosAt : ℕ → MqttQoS
-qosAt k = cond (eqb k 0) AtMostOnce (cond (eqb k 1) AtLeastOnce ExactlyOnce)
-
--- the word of a policy at its place in `any|min0|min1|min2|only0|only1|only2`
-abbrev pub policyAt : ℕ → QosPolicy
-policyAt k =
-    cond (eqb k 0) Any
-    (cond (eqb k 1) (MinQoS AtMostOnce)
-    (cond (eqb k 2) (MinQoS AtLeastOnce)
-    (cond (eqb k 3) (MinQoS ExactlyOnce)
-    (cond (eqb k 4) (ExactQoS AtMostOnce)
-    (cond (eqb k 5) (ExactQoS AtLeastOnce)
-    (ExactQoS ExactlyOnce))))))
-
--- a packet type by its number, 1 to 15
-abbrev pub typeAt : ℕ → MqttPacketType
-typeAt k =
-    cond (eqb k 1) Connect
-    (cond (eqb k 2) ConnAck
-    (cond (eqb k 3) Publish
-    (cond (eqb k 4) PubAck
-    (cond (eqb k 5) PubRec
-    (cond (eqb k 6) PubRel
-    (cond (eqb k 7) PubComp
-    (cond (eqb k 8) Subscribe
-    (cond (eqb k 9) SubAck
-    (cond (eqb k 10) Unsubscribe
-    (cond (eqb k 11) UnsubAck
-    (cond (eqb k 12) PingReq
-    (cond (eqb k 13) PingResp
-    (cond (eqb k 14) Disconnect
-    Auth)))))))))))))
 
 -- an opening that stopped: nothing of it counts but the number, the line and the place
 abbrev pub openingStopped : Field → ℕ → OpeningLines

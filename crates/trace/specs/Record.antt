@@ -6,7 +6,7 @@ use Prim.Native.Nat.{ℕ}
 use lib.Dec.{eqb, leb}
 use lib.ListN.{length, take}
 use lib.Seq.{sets}
-use Rattle.lines.specs.Bytes.{bytes}
+use Rattle.slices.specs.Bytes.{bytes}
 use Rattle.lines.specs.Line.{numberLine, flagLine, hexLine}
 use Rattle.monitor.specs.Alerts.{severityNumber}
 use Rattle.monitor.specs.declared.alerts.MqttInspectResult.{MqttInspectResult}

@@ -9,9 +9,9 @@ use tables::rules::MqttQoS;
 use tables::rules::QosPolicy;
 use tables::rules::TopicAction;
 ghost use mathlib.Core.Path.{_≡_};
-ghost use Rattle.trace.specs.Groups.{actionAt, qosAt, policyAt, typeAt};
-ghost use Rattle.trace.specs.Groups.{openingStopped, openingOf, OpeningIn, ruleStopped, ruleAt, patternKept, RuleIn};
-ghost use Rattle.trace.specs.Groups.{messageStopped, messageAt, topicKept, payloadKept, MessageIn};
+ghost use Rattle.tables.specs.Numbers.{actionAt, qosAt, policyAt};
+ghost use Rattle.monitor.specs.Message.{typeAt};
+ghost use Rattle.trace.specs.Groups.{openingStopped, openingOf, OpeningIn, ruleStopped, ruleAt, patternKept, RuleIn, messageStopped, messageAt, topicKept, payloadKept, MessageIn};
 
 // What an opening's two lines gave. Refused: the number, and which line of the group it is, the first being 0; `next` is the place after the last line read.
 pub struct OpeningLines {
@@ -44,103 +44,6 @@ pub struct MessageLines {
     pub topic_to: usize,
     pub payload_from: usize,
     pub payload_to: usize,
-}
-
-// The action at its place in `allow|block`.
-fn action_at(k: u64) -> TopicAction
-    ensures { λ r. ⌜ r ≡ actionAt k ⌝ }
-{
-    if k == 0 {
-        return TopicAction::Allow;
-    }
-    TopicAction::Block
-}
-
-// The QoS level of a number.
-fn qos_at(k: u64) -> MqttQoS
-    ensures { λ r. ⌜ r ≡ qosAt k ⌝ }
-{
-    if k == 0 {
-        return MqttQoS::AtMostOnce;
-    }
-    if k == 1 {
-        return MqttQoS::AtLeastOnce;
-    }
-    MqttQoS::ExactlyOnce
-}
-
-// The policy at its place in `any|min0|min1|min2|only0|only1|only2`.
-fn policy_at(k: u64) -> QosPolicy
-    ensures { λ r. ⌜ r ≡ policyAt k ⌝ }
-{
-    if k == 0 {
-        return QosPolicy::Any;
-    }
-    if k == 1 {
-        return QosPolicy::MinQoS(MqttQoS::AtMostOnce);
-    }
-    if k == 2 {
-        return QosPolicy::MinQoS(MqttQoS::AtLeastOnce);
-    }
-    if k == 3 {
-        return QosPolicy::MinQoS(MqttQoS::ExactlyOnce);
-    }
-    if k == 4 {
-        return QosPolicy::ExactQoS(MqttQoS::AtMostOnce);
-    }
-    if k == 5 {
-        return QosPolicy::ExactQoS(MqttQoS::AtLeastOnce);
-    }
-    QosPolicy::ExactQoS(MqttQoS::ExactlyOnce)
-}
-
-// The packet type of a number, 1 to 15.
-fn type_at(k: u64) -> MqttPacketType
-    ensures { λ r. ⌜ r ≡ typeAt k ⌝ }
-{
-    if k == 1 {
-        return MqttPacketType::Connect;
-    }
-    if k == 2 {
-        return MqttPacketType::ConnAck;
-    }
-    if k == 3 {
-        return MqttPacketType::Publish;
-    }
-    if k == 4 {
-        return MqttPacketType::PubAck;
-    }
-    if k == 5 {
-        return MqttPacketType::PubRec;
-    }
-    if k == 6 {
-        return MqttPacketType::PubRel;
-    }
-    if k == 7 {
-        return MqttPacketType::PubComp;
-    }
-    if k == 8 {
-        return MqttPacketType::Subscribe;
-    }
-    if k == 9 {
-        return MqttPacketType::SubAck;
-    }
-    if k == 10 {
-        return MqttPacketType::Unsubscribe;
-    }
-    if k == 11 {
-        return MqttPacketType::UnsubAck;
-    }
-    if k == 12 {
-        return MqttPacketType::PingReq;
-    }
-    if k == 13 {
-        return MqttPacketType::PingResp;
-    }
-    if k == 14 {
-        return MqttPacketType::Disconnect;
-    }
-    MqttPacketType::Auth
 }
 
 // An opening that stopped at a line.

@@ -2,7 +2,7 @@
 use mathlib.Core.Path.{sym}
 use native.Mathlib.Omega.{arith}
 use lib.Seq.{length-take-le}
-use Rattle.lines.proofs.SpanLaws.{place-within}
+use Rattle.slices.proofs.bytes.PlaceLaws.{place-within}
 use borrow.Author.Needs.{needs}
 use Rattle.cut.proofs.before.Statement.{statement}
 use Rattle.cut.proofs.before.Tie as tie

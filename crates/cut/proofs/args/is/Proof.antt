@@ -1,6 +1,6 @@
 -- `cut::args::is` meets its contract, in each case of what was spelled. Assumes nothing.
 use borrow.Author.Needs.{needs}
-use Rattle.cut.specs.Args.{isOf}
+use Rattle.cut.specs.Args.{isOneOf}
 use Rattle.cut.proofs.args.is.Statement.{statement}
 use Rattle.cut.proofs.args.is.Tie as tie
 
@@ -14,11 +14,11 @@ enum-told-2 : tie.Need-enum-told-2
 enum-told-2 c = search needs
 
 returns : tie.Need-returns
-unfolding isOf
+unfolding isOneOf
 returns c = rw (← c .before .before .word .ensures, c .enum-told .given .1)
 
 returns-2 : tie.Need-returns-2
-unfolding isOf
+unfolding isOneOf
 returns-2 c = rw (← c .before .before .word .ensures, c .enum-told2 .given .1)
 
 pub is-spec : {M : Type 1} → statement M

@@ -11,7 +11,7 @@ find-byte-requires : tie.Need-find-byte-requires
 find-byte-requires c κs = search needs
 
 returns-2 : tie.Need-returns-2
-returns-2 c = span-here _ _ (c .before .if1 .left) (c .find-byte .ensures)
+returns-2 c = span-here _ _ (c .before .if1 .left) (c .find-byte .ensures .0)
 
 pub span-at-spec : {M : Type 1} → statement M
 span-at-spec = tie.close (tie.spec returns find-byte-requires returns-2)

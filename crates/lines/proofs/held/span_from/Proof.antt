@@ -1,5 +1,5 @@
 -- `held::span_from` meets its contract: a walk of its MIR, by hand. A `TraceReader` that one call returns is held in a local and passed to the next.
--- All that the proof knows of `new` and of `next_line` is that each meets its contract.
+-- All that the proof knows of `new` and of `line_here` is that each meets its contract.
 -- The machine value that `new` returns is stored and passed on as it is. In a local of a body MIR erases the lifetime of the struct's type, so the value is shown to have the type at `erased`:
 -- what the struct owns does not say the lifetime's name.
 -- Assumes nothing.
@@ -50,10 +50,10 @@ use Rattle.lines.proofs.held.new as new
 use Rattle.lines.proofs.held.new.Symbol as new-def
 use Rattle.lines.proofs.held.new.Symbol.{name as #lines·held·new}
 use Rattle.lines.proofs.held.new.Met as new-thm
-use Rattle.lines.proofs.held.next_line as next
-use Rattle.lines.proofs.held.next_line.Symbol as next-def
-use Rattle.lines.proofs.held.next_line.Symbol.{name as #lines·held·next-line}
-use Rattle.lines.proofs.held.next_line.Met as next-thm
+use Rattle.lines.proofs.held.line_here as next
+use Rattle.lines.proofs.held.line_here.Symbol as next-def
+use Rattle.lines.proofs.held.line_here.Symbol.{name as #lines·held·line-here}
+use Rattle.lines.proofs.held.line_here.Met as next-thm
 use Rattle.lines.proofs.held.span_from.Key.{name as #lines·held·span-from}
 use Rattle.lines.proofs.held.span_from as span
 use Rattle.lines.proofs.held.span_from.Statement as stated
@@ -130,7 +130,7 @@ module _ {M : Type 1} (𝓤 : URA M) (H : Heap 𝓤) (A : Atoms 𝓤) (W : Given
       move ! (1 ∷ []) $ frame ! $ nothing ! $ owned ! usize (Is usize) (uint-makes 𝓤 H A W w64) n _ (refl, ok) $ fjoin ! $ move ! (2 ∷ 0 ∷ []) $ fjoin ! $ frame ! $ done !
 
   module _ (C : Calls 𝓤 H) (Λ : Loops 𝓤 H) (fm : FmC 𝓤 H (W .laws) C)
-      (known-new : Triple 𝓤 (C #lines·held·new) (New 𝓤 H A mem run)) (known-next : Triple 𝓤 (C #lines·held·next-line) (Next 𝓤 H A mem run)) where
+      (known-new : Triple 𝓤 (C #lines·held·new) (New 𝓤 H A mem run)) (known-next : Triple 𝓤 (C #lines·held·line-here) (Next 𝓤 H A mem run)) where
     walk : Is (ShrSlice (named 0) κ u8) s (v ∷ []) → ent 𝓤 (onEntry 𝓤 H A span.signature (κ, tt) (q, tt) (s, (n, tt)) at) (WpFn 𝓤 H C Λ code.function (v ∷ vint w64 n ∷ []) Post)
     walk p =
         let typed = shr-slice-lawful 𝓤 H A W (named 0) κ u8 .typed s (v ∷ []) p .0 in
@@ -159,7 +159,7 @@ module _ {M : Type 1} (𝓤 : URA M) (H : Heap 𝓤) (A : Atoms 𝓤) (W : Given
         by ! (exits t u′ (e′ ∙ (ap (λ (x : RefT (List ℕ)). spanOf (now x) (r .at)) (e .0) ∙ ap (spanOf (now s)) (e .1))))))))))))))))
 
 module _ {M : Type 1} (𝓤 : URA M) (H : Heap 𝓤) (A : Atoms 𝓤) (W : Given 𝓤 H A) (mem : Memory → SProp 𝓤) (run : Routine → Fun 𝓤) where
-  span-from-walks : (C : Calls 𝓤 H) (Λ : Loops 𝓤 H) → FmC 𝓤 H (W .laws) C → Triple 𝓤 (C #lines·held·new) (New 𝓤 H A mem run) → Triple 𝓤 (C #lines·held·next-line) (Next 𝓤 H A mem run)
+  span-from-walks : (C : Calls 𝓤 H) (Λ : Loops 𝓤 H) → FmC 𝓤 H (W .laws) C → Triple 𝓤 (C #lines·held·new) (New 𝓤 H A mem run) → Triple 𝓤 (C #lines·held·line-here) (Next 𝓤 H A mem run)
       → Walks 𝓤 H A span.ended stayed (WpFn 𝓤 H C Λ code.function) (span.clauses 𝓤 H A mem run)
   span-from-walks C Λ fm known-new known-next =
       walked 𝓤 H A span.ended stayed (span.clauses 𝓤 H A mem run) (WpFn 𝓤 H C Λ code.function)
@@ -167,7 +167,7 @@ module _ {M : Type 1} (𝓤 : URA M) (H : Heap 𝓤) (A : Atoms 𝓤) (W : Given
       (λ κs qs bounds a g are. via 𝓤 _ (fst∗ 𝓤 _ (emp 𝓤)) (walk 𝓤 H A W mem run (κs .0) (qs .0) (a .0) (a .1 .0) (are .1 .0 .1) C Λ fm known-new known-next (are .0)))
 
 span-from-meets : {M : Type 1} (𝓤 : URA M) (H : Heap 𝓤) (A : Atoms 𝓤) (W : Given 𝓤 H A) (mem : Memory → SProp 𝓤) (run : Routine → Fun 𝓤) (𝓣 : Tables 𝓤 H)
-    → Triple 𝓤 (𝓣 .C #lines·held·new) (New 𝓤 H A mem run) → Triple 𝓤 (𝓣 .C #lines·held·next-line) (Next 𝓤 H A mem run)
+    → Triple 𝓤 (𝓣 .C #lines·held·new) (New 𝓤 H A mem run) → Triple 𝓤 (𝓣 .C #lines·held·line-here) (Next 𝓤 H A mem run)
     → Meets 𝓤 H A span.signature (WpFn 𝓤 H (𝓣 .C) (𝓣 .Λ) code.function) (span.spec 𝓤 H A mem run)
 span-from-meets 𝓤 H A W mem run 𝓣 known-new known-next =
     walk-meets 𝓤 H A span.ended stayed W
@@ -182,4 +182,4 @@ span-from-spec 𝓤 H 𝓜 𝓖 𝓡 =
     (tables 𝓤 H 𝓜 𝓡 code.env .C) (tables 𝓤 H 𝓜 𝓡 code.env .Λ) #lines·held·span-from code.function (code.unfolded 𝓤 H 𝓜 𝓡)
     (span-from-meets 𝓤 H (𝓖 .A) (givenOf 𝓤 H 𝓜 𝓖) (𝓜 .mem) (𝓡 .run) (tablesOf 𝓤 H 𝓜 (tables 𝓤 H 𝓜 𝓡 code.env))
     (cited 𝓤 H (New 𝓤 H (𝓖 .A) (𝓜 .mem) (𝓡 .run)) 𝓜 𝓡 code.env #lines·held·new new-def.routine code.calls-lines·held·new (new-thm.met 𝓤 H 𝓜 𝓖 𝓡))
-    (cited 𝓤 H (Next 𝓤 H (𝓖 .A) (𝓜 .mem) (𝓡 .run)) 𝓜 𝓡 code.env #lines·held·next-line next-def.routine code.calls-lines·held·next-line (next-thm.met 𝓤 H 𝓜 𝓖 𝓡)))
+    (cited 𝓤 H (Next 𝓤 H (𝓖 .A) (𝓜 .mem) (𝓡 .run)) 𝓜 𝓡 code.env #lines·held·line-here next-def.routine code.calls-lines·held·line-here (next-thm.met 𝓤 H 𝓜 𝓖 𝓡)))

@@ -4,9 +4,9 @@ use mathlib.Core.Path.{_≡_, refl, sym, _∙_}
 use lib.ListN.{length, drop}
 use borrow.Author.Needs.{needs}
 use borrow.Author.Tests.{not-true, not-false}
-use Rattle.lines.specs.Every.{every}
+use Rattle.laws.specs.Lists.{every}
 use Rattle.lines.specs.ReadHex.{isHex}
-use Rattle.lines.proofs.EveryLaws.{every-next, every-not, every-end}
+use Rattle.laws.proofs.Every.{every-on, every-off, every-end}
 use Rattle.lines.proofs.value.all_hex.Statement.{statement}
 use Rattle.lines.proofs.value.all_hex.Tie as tie
 
@@ -26,7 +26,7 @@ is-hex-requires : tie.Need-is-hex-requires Inv-loop μ-loop
 is-hex-requires c κs = search needs
 
 returns : tie.Need-returns Inv-loop μ-loop
-returns c = sym (every-not isHex _ _ (c .before .before .before .loop-test .taken) (sym (c .before .is-hex .ensures) ∙ not-true _ (c .if1 .taken))) ∙ c .before .before .before .before .loop .inv
+returns c = sym (every-off isHex _ 0 _ (c .before .before .before .loop-test .taken) (sym (c .before .is-hex .ensures) ∙ not-true _ (c .if1 .taken))) ∙ c .before .before .before .before .loop .inv
 
 add-i : tie.Need-add-i Inv-loop μ-loop
 add-i c = search needs
@@ -35,7 +35,7 @@ loop-less : tie.Need-loop-less Inv-loop μ-loop
 loop-less c = search needs
 
 loop-again : tie.Need-loop-again Inv-loop μ-loop
-loop-again c = every-next isHex _ _ (c .before .before .before .loop-test .taken) (sym (c .before .is-hex .ensures) ∙ not-false _ (c .if1 .left)) ∙ c .before .before .before .before .loop .inv
+loop-again c = every-on isHex _ 0 _ (c .before .before .before .loop-test .taken) (sym (c .before .is-hex .ensures) ∙ not-false _ (c .if1 .left)) ∙ c .before .before .before .before .loop .inv
 
 returns-2 : tie.Need-returns-2 Inv-loop μ-loop
 returns-2 c = sym (every-end isHex _ _ (c .loop-test .left)) ∙ c .before .loop .inv

@@ -4,7 +4,7 @@ use Prim.Native.Nat.{_-_, _≤_}
 use native.Mathlib.Omega.{arith}
 use borrow.Author.Needs.{needs}
 use Rattle.lines.specs.ReadHex.{isHex}
-use Rattle.lines.proofs.EveryLaws.{every-at}
+use Rattle.laws.proofs.Every.{every-at}
 use Rattle.lines.proofs.ReadHexLaws.{Unhexed, unhexed-none, unhexed-next, unhexed-all, hex-taken}
 use Rattle.lines.proofs.value.put_unhex.Statement.{statement}
 use Rattle.lines.proofs.value.put_unhex.Tie as tie
@@ -25,7 +25,7 @@ shared-slice-read-hex-value : tie.Need-shared-slice-read-hex-value Inv-loop μ-l
 shared-slice-read-hex-value c = search needs
 
 hex-value-requires : tie.Need-hex-value-requires Inv-loop μ-loop
-hex-value-requires c κs = every-at isHex _ _ (hex-taken _ _ (c .before .before .before .before .before .pre) .1) (omega arith)
+hex-value-requires c κs = every-at isHex _ 0 _ (hex-taken _ _ (c .before .before .before .before .before .pre) .1) (omega arith)
 
 mul-hex-value-2 : tie.Need-mul-hex-value-2 Inv-loop μ-loop
 mul-hex-value-2 c = search needs
@@ -37,7 +37,7 @@ shared-slice-read-hex-value-2 : tie.Need-shared-slice-read-hex-value-2 Inv-loop 
 shared-slice-read-hex-value-2 c = search needs
 
 hex-value-requires-2 : tie.Need-hex-value-requires-2 Inv-loop μ-loop
-hex-value-requires-2 c κs = every-at isHex _ _ (hex-taken _ _ (c .before .before .before .before .before .before .before .pre) .1) (omega arith)
+hex-value-requires-2 c κs = every-at isHex _ 0 _ (hex-taken _ _ (c .before .before .before .before .before .before .before .pre) .1) (omega arith)
 
 mul-out : tie.Need-mul-out Inv-loop μ-loop
 mul-out c = search needs

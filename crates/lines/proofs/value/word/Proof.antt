@@ -24,32 +24,32 @@ find-byte-requires c κs = search needs
 -- the word's end, seen from where it was found, lies between its start and the list's end
 inside : (c : tie.After-find-byte Inv-loop μ-loop)
     → (c .before .loop .from ≤ c .find-byte .result) × (c .find-byte .result ≤ length (c .before .before .before .before .args .words .now))
-inside c = word-inside _ (c .before .loop .inv .0) (c .find-byte .ensures)
+inside c = word-inside _ (c .before .loop .inv .0) (c .find-byte .ensures .0)
 
-sub-is-word : tie.Need-sub-is-word Inv-loop μ-loop
-sub-is-word c = inside c .0
+sub-same-bytes : tie.Need-sub-same-bytes Inv-loop μ-loop
+sub-same-bytes c = inside c .0
 
-part-is-word-start : tie.Need-part-is-word-start Inv-loop μ-loop
-part-is-word-start c = let h = inside c in search needs
+part-same-bytes-start : tie.Need-part-same-bytes-start Inv-loop μ-loop
+part-same-bytes-start c = let h = inside c in search needs
 
-part-is-word-end : tie.Need-part-is-word-end Inv-loop μ-loop
-part-is-word-end c = let h = inside c in search needs
+part-same-bytes-end : tie.Need-part-same-bytes-end Inv-loop μ-loop
+part-same-bytes-end c = let h = inside c in search needs
 
-is-word-requires : tie.Need-is-word-requires Inv-loop μ-loop
-is-word-requires c κs = search needs
+same-bytes-requires : tie.Need-same-bytes-requires Inv-loop μ-loop
+same-bytes-requires c κs = search needs
 
 returns : tie.Need-returns Inv-loop μ-loop
 returns c =
     let at-find = c .before .before .before in
     let inv = at-find .before .loop .inv in
-    word-found (inv .2) (inv .0) (at-find .find-byte .ensures) (sym (c .before .is-word .ensures) ∙ c .if1 .taken)
+    word-found (inv .2) (inv .0) (at-find .find-byte .ensures .0) (sym (c .before .same-bytes .ensures) ∙ c .if1 .taken)
 
 returns-2 : tie.Need-returns-2 Inv-loop μ-loop
 returns-2 c =
-    let at-is-word = c .before .before in
-    let at-find = at-is-word .before .before in
+    let at-same-bytes = c .before .before in
+    let at-find = at-same-bytes .before .before in
     let inv = at-find .before .loop .inv in
-    word-missing (inv .2) (inv .0) (at-find .find-byte .ensures) (sym (at-is-word .is-word .ensures) ∙ c .before .if1 .left) (c .if2 .taken)
+    word-missing (inv .2) (inv .0) (at-find .find-byte .ensures .0) (sym (at-same-bytes .same-bytes .ensures) ∙ c .before .if1 .left) (c .if2 .taken)
 
 add-from : tie.Need-add-from Inv-loop μ-loop
 add-from c = let h = inside (c .before .before .before .before) in search needs
@@ -62,13 +62,13 @@ loop-less c = let h = inside (c .before .before .before .before) in omega arith
 
 loop-again : tie.Need-loop-again Inv-loop μ-loop
 loop-again c =
-    let at-is-word = c .before .before in
-    let at-find = at-is-word .before .before in
+    let at-same-bytes = c .before .before in
+    let at-find = at-same-bytes .before .before in
     let inv = at-find .before .loop .inv in
     let h = inside at-find in (
       omega arith,
       omega arith,
-      word-next (inv .2) (inv .0) (at-find .find-byte .ensures) (sym (at-is-word .is-word .ensures) ∙ c .before .if1 .left) (c .if2 .left),
+      word-next (inv .2) (inv .0) (at-find .find-byte .ensures .0) (sym (at-same-bytes .same-bytes .ensures) ∙ c .before .if1 .left) (c .if2 .left),
     )
 
 pub word-spec : {M : Type 1} → statement M
@@ -79,10 +79,10 @@ word-spec =
     μ-loop
     loop-holds
     find-byte-requires
-    sub-is-word
-    part-is-word-start
-    part-is-word-end
-    is-word-requires
+    sub-same-bytes
+    part-same-bytes-start
+    part-same-bytes-end
+    same-bytes-requires
     returns
     returns-2
     add-from

@@ -7,11 +7,11 @@ use Rattle.lines.proofs.words.word_part.Tie as tie
 word-from-requires : tie.Need-word-from-requires
 word-from-requires c κs = search needs
 
-word-end-requires : tie.Need-word-end-requires
-word-end-requires c κs = search needs
+find-byte-requires : tie.Need-find-byte-requires
+find-byte-requires c κs = search needs
 
 returns : tie.Need-returns
-returns c = word-at _ (c .before .word-from .ensures .1) (c .word-end .ensures .0) (c .word-end .ensures .1)
+returns c = let w = c .before .word-from .ensures in word-at _ (w .0) (w .1) (c .find-byte .ensures .0) (c .find-byte .ensures .1 .1)
 
 pub word-part-spec : {M : Type 1} → statement M
-word-part-spec = tie.close (tie.spec word-from-requires word-end-requires returns)
+word-part-spec = tie.close (tie.spec word-from-requires find-byte-requires returns)

@@ -1,18 +1,17 @@
--- `buckets::find_oldest` meets its contract. The invariant: `at` is a place from `i` on, and `time` is the least refill time from `i` on, first at `at`.
--- The measure is `i`. Assumes nothing.
+-- `buckets::find_oldest` meets its contract. The invariant: `time` is the least from `i` on, first at `at`, and `i` is a place. The measure is `i`. Assumes nothing.
 use mathlib.Core.Path.{_≡_, sym}
-use Prim.Native.Nat.{_≤_, _<_, _-_}
+use Prim.Native.Nat.{_<_}
 use native.Mathlib.Omega.{arith}
-use lib.ListN.{length, drop}
+use lib.ListN.{length}
 use borrow.Author.Needs.{needs}
-use Rattle.tables.specs.Scan.{leastOf, least, any}
 use Rattle.tables.specs.Buckets.{noBucket}
-use Rattle.tables.proofs.ScanLaws.{least-last, least-front, least-stays, least-done}
+use Rattle.tables.proofs.ScanLaws.{LeastFrom, least-last, least-front, least-stays, least-done}
+use Rattle.tables.proofs.PlaceLaws.{timeOf}
 use Rattle.tables.proofs.buckets.find_oldest.Statement.{statement}
 use Rattle.tables.proofs.buckets.find_oldest.Tie as tie
 
 abbrev Inv-loop : tie.InvT-loop
-Inv-loop buckets at₀ time₀ i₀ at time i = (i ≤ at) × (at < 32) × (leastOf (λ b. b .«last_refill_us») any (drop i buckets) ≡ least (at - i) time)
+Inv-loop buckets at₀ time₀ i₀ at time i = LeastFrom timeOf buckets at time i × (i < 32)
 
 abbrev μ-loop : tie.MeasureT-loop
 μ-loop buckets at₀ time₀ i₀ at time i = i
@@ -23,7 +22,7 @@ array-copy-out-last c = search needs
 loop-holds : tie.Need-loop-holds Inv-loop μ-loop
 loop-holds c =
     let n : length (c .before .args .t1) ≡ 32 = search needs in
-    (omega arith, omega arith, least-last _ (c .before .args .t1) 31 noBucket (sym n))
+    (least-last timeOf (c .before .args .t1) 31 noBucket (sym n), omega arith)
 
 sub-i : tie.Need-sub-i Inv-loop μ-loop
 sub-i c = search needs
@@ -40,8 +39,7 @@ loop-less c = search needs
 loop-again : tie.Need-loop-again Inv-loop μ-loop
 loop-again c =
     let l = c .before .before .before .before in
-    let n : length (l .before .before .args .t1) ≡ 32 = search needs in
-    (omega arith, omega arith, least-front _ _ (l .loop .i) noBucket (omega arith) (omega arith) (l .loop .inv .2) (omega arith))
+    (least-front timeOf _ (l .loop .i) noBucket (l .loop .inv .0) (c .before .before .before .loop-test .taken) (c .if1 .taken), omega arith)
 
 loop-less-2 : tie.Need-loop-less-2 Inv-loop μ-loop
 loop-less-2 c = search needs
@@ -49,11 +47,10 @@ loop-less-2 c = search needs
 loop-again-2 : tie.Need-loop-again-2 Inv-loop μ-loop
 loop-again-2 c =
     let l = c .before .before .before .before in
-    let n : length (l .before .before .args .t1) ≡ 32 = search needs in
-    (omega arith, omega arith, least-stays _ _ (l .loop .i) noBucket (omega arith) (omega arith) (l .loop .inv .0) (l .loop .inv .2) (omega arith))
+    (least-stays timeOf _ (l .loop .i) noBucket (l .loop .inv .0) (c .before .before .before .loop-test .taken) (c .if1 .left), omega arith)
 
 returns : tie.Need-returns Inv-loop μ-loop
-returns c = least-done _ _ (c .before .loop .i) (c .before .loop .at) (c .loop-test .left) (c .before .loop .inv .2)
+returns c = least-done (c .before .loop .inv .0) (c .loop-test .left)
 
 pub find-oldest-spec : {M : Type 1} → statement M
 find-oldest-spec =

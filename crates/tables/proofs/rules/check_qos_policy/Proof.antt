@@ -10,20 +10,20 @@ enum-told c = search needs
 enum-known-policy : tie.Need-enum-known-policy
 enum-known-policy c = search needs
 
-level-requires : tie.Need-level-requires
-level-requires c κs = search needs
+qos-number-requires : tie.Need-qos-number-requires
+qos-number-requires c κs = search needs
 
-level-requires-2 : tie.Need-level-requires-2
-level-requires-2 c κs = search needs
+qos-number-requires-2 : tie.Need-qos-number-requires-2
+qos-number-requires-2 c κs = search needs
 
 enum-known-policy-2 : tie.Need-enum-known-policy-2
 enum-known-policy-2 c = search needs
 
-level-requires-3 : tie.Need-level-requires-3
-level-requires-3 c κs = search needs
+qos-number-requires-3 : tie.Need-qos-number-requires-3
+qos-number-requires-3 c κs = search needs
 
-level-requires-4 : tie.Need-level-requires-4
-level-requires-4 c κs = search needs
+qos-number-requires-4 : tie.Need-qos-number-requires-4
+qos-number-requires-4 c κs = search needs
 
 returns : tie.Need-returns
 unfolding qosOk
@@ -43,11 +43,11 @@ check-qos-policy-spec =
     (tie.spec
     enum-told
     enum-known-policy
-    level-requires
-    level-requires-2
+    qos-number-requires
+    qos-number-requires-2
     enum-known-policy-2
-    level-requires-3
-    level-requires-4
+    qos-number-requires-3
+    qos-number-requires-4
     returns
     returns-2
     returns-3)

@@ -5,7 +5,7 @@ use Prim.Native.Nat.{_≤_, _-_, _+_}
 use native.Mathlib.Omega.{arith}
 use borrow.Author.Needs.{needs}
 use lib.ListN.{length, take, drop}
-use Rattle.topics.specs.Levels.{same}
+use Rattle.slices.specs.Bytes.{same}
 use Rattle.tables.specs.Rules.{equalRule}
 use Rattle.tables.specs.Scan.{find}
 use Rattle.tables.proofs.RuleLaws.{passing, seek-here, seek-next, seek-done}

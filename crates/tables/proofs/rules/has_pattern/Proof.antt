@@ -1,16 +1,16 @@
--- `rules::has_pattern` meets its contract: a rule that is not live fails, any other is asked by the bytes of its pattern. Assumes nothing.
+-- `rules::has_pattern` meets its contract: a rule that is not guard-on fails, any other is asked by the bytes of its pattern. Assumes nothing.
 use mathlib.Core.Path.{_≡_, sym, _∙_}
 use native.Mathlib.Omega.{arith}
 use borrow.Author.Needs.{needs}
 use lib.ListN.{length}
 use lib.Seq.{length-take-le}
-use Rattle.tables.proofs.LiveLaws.{not-live, live}
+use Rattle.laws.proofs.Tests.{guard-off, guard-on}
 use Rattle.tables.proofs.RuleLaws.{lent}
 use Rattle.tables.proofs.rules.has_pattern.Statement.{statement}
 use Rattle.tables.proofs.rules.has_pattern.Tie as tie
 
 returns : tie.Need-returns
-returns c = not-live (c .before .before .before .args .rule .active) _ (c .if1 .taken)
+returns c = guard-off (c .before .before .before .args .rule .active) _ (c .if1 .taken)
 
 used-requires : tie.Need-used-requires
 used-requires c κs = search needs
@@ -33,7 +33,7 @@ returns-2 c =
     let u = c .before .before .before in
     let r = u .before .before .before .before .args .rule in
     let n : length (r .pattern) ≡ 64 = search needs in
-    live (r .active) _ (u .before .if1 .left) (c .same-bytes .ensures ∙ rw (lent r n (u .used .ensures)))
+    guard-on (r .active) _ (u .before .if1 .left) (c .same-bytes .ensures ∙ rw (lent r n (u .used .ensures)))
 
 pub has-pattern-spec : {M : Type 1} → statement M
 has-pattern-spec =

@@ -1,16 +1,16 @@
--- `rules::shadows` meets its contract: a later rule that is not live counts for nothing, any other is asked as a topic. Assumes nothing.
+-- `rules::shadows` meets its contract: a later rule that is not guard-on counts for nothing, any other is asked as a topic. Assumes nothing.
 use mathlib.Core.Path.{_≡_, sym, _∙_}
 use native.Mathlib.Omega.{arith}
 use borrow.Author.Needs.{needs}
 use lib.ListN.{length}
 use lib.Seq.{length-take-le}
-use Rattle.tables.proofs.LiveLaws.{not-live, live}
+use Rattle.laws.proofs.Tests.{guard-off, guard-on}
 use Rattle.tables.proofs.RuleLaws.{lent}
 use Rattle.tables.proofs.rules.shadows.Statement.{statement}
 use Rattle.tables.proofs.rules.shadows.Tie as tie
 
 returns : tie.Need-returns
-returns c = not-live (c .before .before .args .later .active) _ (c .if1 .taken)
+returns c = guard-off (c .before .before .args .later .active) _ (c .if1 .taken)
 
 used-requires : tie.Need-used-requires
 used-requires c κs = search needs
@@ -33,7 +33,7 @@ returns-2 c =
     let u = c .before .before .before in
     let r = u .before .before .before .args .later in
     let n : length (r .pattern) ≡ 64 = search needs in
-    live (r .active) _ (u .before .if1 .left) (c .takes .ensures ∙ rw (lent r n (u .used .ensures)))
+    guard-on (r .active) _ (u .before .if1 .left) (c .takes .ensures ∙ rw (lent r n (u .used .ensures)))
 
 pub shadows-spec : {M : Type 1} → statement M
 shadows-spec =

@@ -1,16 +1,16 @@
--- `rules::takes` meets its contract: a rule that is not live fails, any other is asked by the bytes of its pattern. Assumes nothing.
+-- `rules::takes` meets its contract: a rule that is not guard-on fails, any other is asked by the bytes of its pattern. Assumes nothing.
 use mathlib.Core.Path.{_≡_, sym, _∙_}
 use native.Mathlib.Omega.{arith}
 use borrow.Author.Needs.{needs}
 use lib.ListN.{length}
 use lib.Seq.{length-take-le}
-use Rattle.tables.proofs.LiveLaws.{not-live, live}
+use Rattle.laws.proofs.Tests.{guard-off, guard-on}
 use Rattle.tables.proofs.RuleLaws.{lent}
 use Rattle.tables.proofs.rules.takes.Statement.{statement}
 use Rattle.tables.proofs.rules.takes.Tie as tie
 
 returns : tie.Need-returns
-returns c = not-live (c .before .before .before .args .rule .active) _ (c .if1 .taken)
+returns c = guard-off (c .before .before .before .args .rule .active) _ (c .if1 .taken)
 
 used-requires : tie.Need-used-requires
 used-requires c κs = search needs
@@ -20,20 +20,20 @@ array-share-prefix-pattern c =
     let n : length (c .before .before .before .before .before .args .rule .pattern) ≡ 64 = search needs in
     omega (arith, c .before .used .ensures)
 
-slice-aggregate-topic-matches : tie.Need-slice-aggregate-topic-matches
-slice-aggregate-topic-matches c =
+slice-aggregate-matches-with : tie.Need-slice-aggregate-matches-with
+slice-aggregate-matches-with c =
     let n : length (c .before .before .before .before .before .before .args .rule .pattern) ≡ 64 = search needs in
     sym (length-take-le _ _ (omega (arith, c .before .before .used .ensures)))
 
-topic-matches-requires : tie.Need-topic-matches-requires
-topic-matches-requires c κs = search needs
+matches-with-requires : tie.Need-matches-with-requires
+matches-with-requires c κs = search needs
 
 returns-2 : tie.Need-returns-2
 returns-2 c =
     let u = c .before .before .before in
     let r = u .before .before .before .before .args .rule in
     let n : length (r .pattern) ≡ 64 = search needs in
-    live (r .active) _ (u .before .if1 .left) (c .topic-matches .ensures ∙ rw (lent r n (u .used .ensures)))
+    guard-on (r .active) _ (u .before .if1 .left) (c .matches-with .ensures ∙ rw (lent r n (u .used .ensures)))
 
 pub takes-spec : {M : Type 1} → statement M
 takes-spec =
@@ -42,6 +42,6 @@ takes-spec =
     returns
     used-requires
     array-share-prefix-pattern
-    slice-aggregate-topic-matches
-    topic-matches-requires
+    slice-aggregate-matches-with
+    matches-with-requires
     returns-2)

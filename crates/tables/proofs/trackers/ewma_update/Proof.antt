@@ -52,8 +52,8 @@ loop-again c =
     let n : length (l .before .args .t1) ≡ 16 = search needs in
     (omega arith, find-next _ _ noTracker (omega arith) (l .loop .inv .1) (sym (c .before .is-tracker .ensures) ∙ c .if1 .left))
 
-tracker-seat-requires : tie.Need-tracker-seat-requires Inv-loop μ-loop
-tracker-seat-requires c κs = search needs
+find-seat-requires : tie.Need-find-seat-requires Inv-loop μ-loop
+find-seat-requires c κs = search needs
 
 fresh-tracker-requires : tie.Need-fresh-tracker-requires Inv-loop μ-loop
 fresh-tracker-requires c κs = search needs
@@ -66,7 +66,7 @@ returns-2 c =
     let l = c .before .before .before .before in
     let n : length (l .before .args .t1) ≡ 16 = search needs in
     feed-new _ _ _ _ (find-done _ _ (omega arith) (omega arith) (l .loop .inv .1)) (omega arith)
-    (c .before .before .tracker-seat .ensures) (c .before .fresh-tracker .ensures) (c .feed-at2 .ensures)
+    (c .before .before .find-seat .ensures) (c .before .fresh-tracker .ensures) (c .feed-at2 .ensures)
 
 pub ewma-update-spec : {M : Type 1} → statement M
 ewma-update-spec =
@@ -83,7 +83,7 @@ ewma-update-spec =
     add-i
     loop-less
     loop-again
-    tracker-seat-requires
+    find-seat-requires
     fresh-tracker-requires
     feed-at-requires-2
     returns-2)

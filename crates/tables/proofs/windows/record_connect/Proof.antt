@@ -52,8 +52,8 @@ loop-again c =
     let n : length (l .before .args .t1) ≡ 16 = search needs in
     (omega arith, find-next _ _ noWindow (omega arith) (l .loop .inv .1) (sym (c .before .is-client .ensures) ∙ c .if1 .left))
 
-window-seat-requires : tie.Need-window-seat-requires Inv-loop μ-loop
-window-seat-requires c κs = search needs
+find-seat-requires : tie.Need-find-seat-requires Inv-loop μ-loop
+find-seat-requires c κs = search needs
 
 fresh-window-requires : tie.Need-fresh-window-requires Inv-loop μ-loop
 fresh-window-requires c κs = search needs
@@ -66,7 +66,7 @@ returns-2 c =
     let l = c .before .before .before .before in
     let n : length (l .before .args .t1) ≡ 16 = search needs in
     connect-new _ _ _ _ _ (find-done _ _ (omega arith) (omega arith) (l .loop .inv .1)) (omega arith)
-    (c .before .before .window-seat .ensures) (c .before .fresh-window .ensures) (c .connect-at2 .ensures)
+    (c .before .before .find-seat .ensures) (c .before .fresh-window .ensures) (c .connect-at2 .ensures)
 
 pub record-connect-spec : {M : Type 1} → statement M
 record-connect-spec =
@@ -83,7 +83,7 @@ record-connect-spec =
     add-i
     loop-less
     loop-again
-    window-seat-requires
+    find-seat-requires
     fresh-window-requires
     connect-at-requires-2
     returns-2)

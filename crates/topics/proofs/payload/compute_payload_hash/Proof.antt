@@ -11,12 +11,12 @@ returns c = sym (payload-none _ (c .if1 .taken))
 streams-of-requires : tie.Need-streams-of-requires
 streams-of-requires c κs = search needs
 
-words-of-requires : tie.Need-words-of-requires
-words-of-requires c κs = search needs
+word-bytes-requires : tie.Need-word-bytes-requires
+word-bytes-requires c κs = search needs
 
 returns-2 : tie.Need-returns-2
 returns-2 c = cc (payload-some _ (c .before .before .if1 .left))
 
 pub compute-payload-hash-spec : {M : Type 1} → statement M
 compute-payload-hash-spec =
-    tie.close (tie.spec returns streams-of-requires words-of-requires returns-2)
+    tie.close (tie.spec returns streams-of-requires word-bytes-requires returns-2)

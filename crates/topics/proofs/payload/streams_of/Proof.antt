@@ -7,7 +7,7 @@ use native.Mathlib.Omega.{arith}
 use lib.ListN.{length, drop}
 use borrow.Author.Needs.{needs}
 use Rattle.topics.specs.Payload.{streamsStep, streamsOf}
-use Rattle.topics.proofs.FoldLaws.{fold-on, fold-end}
+use Rattle.laws.proofs.Folds.{fold-on, fold-end}
 use Rattle.topics.proofs.payload.streams_of.Statement.{statement}
 use Rattle.topics.proofs.payload.streams_of.Tie as tie
 

@@ -3,7 +3,7 @@ use mathlib.Core.Path.{_≡_}
 use native.Mathlib.Omega.{arith}
 use lib.ListN.{length}
 use borrow.Author.Tests.{eq-eqb, ne-eqb}
-use Rattle.lines.specs.Bytes.{bytes}
+use Rattle.slices.specs.Bytes.{bytes}
 use Rattle.lines.specs.Field.{hexField}
 use Rattle.trace.specs.Groups.{ruleAt, rule1, rule2, rule3, rule4}
 use Rattle.trace.proofs.GroupLaws.{rule-within}

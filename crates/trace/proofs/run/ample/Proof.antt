@@ -4,7 +4,7 @@ use mathlib.Core.Path.{_≡_}
 use native.Mathlib.Omega.{arith}
 use lib.Dec.{leb}
 use borrow.Author.Tests.{le-leb, lt-leb}
-use Rattle.lines.proofs.Cases.{by-le}
+use Rattle.laws.proofs.Cases.{by-le}
 use Rattle.trace.proofs.run.ample.Statement.{statement}
 use Rattle.trace.proofs.run.ample.Tie as tie
 

@@ -4,7 +4,7 @@ use mathlib.Core.Path.{sym, ap, _∙_}
 use lib.Dec.{leb}
 use lib.ListN.{length}
 use borrow.Author.Tests.{le-leb, leb-true}
-use Rattle.lines.proofs.TestLaws.{both}
+use Rattle.laws.proofs.Tests.{both}
 use Rattle.trace.specs.Trace.{traceText}
 use Rattle.trace.specs.declared.run.TraceEnd.{TraceEnd}
 use Rattle.trace.proofs.Bound.{trace-within}
