@@ -1,2 +1,0 @@
-pub mod ArgLaws
-pub mod SwapLaws

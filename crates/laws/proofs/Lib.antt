@@ -1,6 +1,6 @@
 pub mod Cases
 pub mod Every
 pub mod Folds
-pub mod Fuel
+mod Fuel
 pub mod Lists
 pub mod Tests

@@ -2,7 +2,7 @@
 -- Assumes nothing.
 use Prim.Native.Nat.{ℕ, zero, suc, _+_, _/_, _%_, _≤_, _<_}
 use mathlib.Core.Path.{_≡_, refl, sym, ap, _∙_}
-use mathlib.Core.Bool.{true, false, not, _&&_}
+use mathlib.Core.Bool.{true, false, _&&_}
 use mathlib.Core.List.{List, [], _∷_, _++_, append-nil}
 use native.Mathlib.Omega.{arith}
 use lib.Dec.{eqb, leb}
@@ -16,8 +16,8 @@ use Rattle.lines.specs.ReadDecimal.{isDigit, withDigit, digitsAfter, noS
 use Rattle.laws.proofs.Cases.{by, by-le}
 use Rattle.laws.proofs.Tests.{never, both}
 use Rattle.laws.proofs.Every.{every-both, every-join}
-use Rattle.lines.proofs.DecimalLaws.{decimal-one, decimal-more, decimal-tenth, decimal-some}
-use Rattle.lines.proofs.ReadDecimalLaws.{spare-more}
+use Rattle.lines.proofs.put.DecimalLaws.{decimal-one, decimal-more, decimal-tenth, decimal-some}
+use Rattle.lines.proofs.value.DecimalLaws.{spare-more}
 
 -- a digit is 48 to 57
 digit-range : (c : ℕ) → isDigit c ≡ true → (48 ≤ c) × (c ≤ 57)

@@ -12,8 +12,8 @@ use Rattle.laws.specs.Lists.{every}
 use Rattle.lines.specs.ReadHex.{isHex, hexValue, hexCount, hexRefusal, unhex}
 use Rattle.laws.proofs.Cases.{by-le}
 use Rattle.laws.proofs.Every.{every-both}
-use Rattle.lines.proofs.HexLaws.{hex-length}
-use Rattle.lines.proofs.ReadHexLaws.{hex-kinds, hex-taken, hex-fits}
+use Rattle.lines.proofs.put.HexLaws.{hex-length}
+use Rattle.lines.proofs.value.HexLaws.{hex-kinds, hex-taken, hex-fits}
 
 -- a number below 16 has a hex digit, and is its value
 digit-back : (n : ℕ) → n < 16 → (isHex (hexDigit n) ≡ true) × (hexValue (hexDigit n) ≡ n)

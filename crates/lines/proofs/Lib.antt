@@ -1,15 +1,4 @@
-pub mod DecimalLaws
 pub mod DecimalRound
-pub mod FieldLaws
-pub mod HexLaws
 pub mod HexRound
-pub mod KeptLaws
-pub mod LineLaws
-pub mod ReadDecimalLaws
-pub mod ReadHexLaws
-pub mod ReadWordLaws
 pub mod Round
-pub mod SpanLaws
-pub mod WordLaws
-pub mod WordRound
-pub mod WroteLaws
+mod WordRound

@@ -1,20 +1,20 @@
 -- Words there and back (document 01, "The trace": a choice is one of the words `allow|block`): what is written of a place in a list of different words is read as it, and what is read as a place is
 -- what is written of it. That the words of a list are different is a test that computes: `refl` for a list that is written out. Assumes nothing.
 use Prim.Native.Nat.{ℕ, zero, suc, _≤_, _<_}
-use mathlib.Core.Path.{_≡_, refl, sym, ap}
+use mathlib.Core.Path.{_≡_, sym, ap}
 use mathlib.Core.Bool.{true}
 use mathlib.Core.List.{List, [], _∷_}
 use native.Mathlib.Omega.{arith}
-use lib.Dec.{eqb, ltb}
+use lib.Dec.{ltb}
 use lib.ListN.{length, getD}
-use borrow.Author.Tests.{eq-eqb, eqb-true, lt-ltb, ltb-true}
+use borrow.Author.Tests.{eqb-true, lt-ltb, ltb-true}
 use Rattle.lines.specs.declared.value.Number.the-variants.{Value, Bad}
 use Rattle.lines.specs.Word.{wordsOf, wordText}
 use Rattle.slices.specs.Bytes.{same}
 use Rattle.slices.proofs.bytes.SameLaws.{same-true, same-refl}
 use Rattle.lines.specs.ReadWord.{wordIndex, wordOf, different}
 use Rattle.laws.proofs.Cases.{by}
-use Rattle.laws.proofs.Tests.{never, both}
+use Rattle.laws.proofs.Tests.{both}
 
 -- a word of a list is found at its place or before
 found-by : (ws : List (List ℕ)) (k : ℕ) → k < length ws → wordIndex ws (getD ws k []) ≤ k

@@ -2,7 +2,7 @@
 -- the state after it are the monitor's own definitions.
 -- Assumes nothing.
 use mathlib.Core.Bool.{true, cond, _||_}
-use mathlib.Core.List.{List, [], _∷_, _++_}
+use mathlib.Core.List.{List, _∷_, _++_}
 use Prim.Native.Nat.{ℕ, zero, suc, _+_, _*_, _%_}
 use lib.Dec.{ltb, leb}
 use lib.ListN.{length}

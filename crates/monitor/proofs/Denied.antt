@@ -14,7 +14,7 @@ use Rattle.monitor.specs.declared.message.MqttMessage.{MqttMessage}
 use Rattle.monitor.specs.declared.state.MqttMonitor.{MqttMonitor}
 use Rattle.monitor.proofs.Four.{all-told}
 use Rattle.monitor.proofs.FoundLaws.{found-settled}
-use Rattle.monitor.proofs.KindLaws.{kinds-deny}
+use Rattle.monitor.proofs.alerts.KindLaws.{kinds-deny}
 
 module _ (matcher : List ℕ → List ℕ → Bool) (m : MqttMonitor) (msg : MqttMessage) (topic payload : List ℕ) where
   -- by what was found

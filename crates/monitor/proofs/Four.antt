@@ -20,7 +20,7 @@ use Rattle.monitor.specs.Told.{AtMostFour, NoneDropped}
 use Rattle.monitor.specs.declared.alerts.Raised.{Raised}
 use Rattle.monitor.specs.declared.message.MqttMessage.{MqttMessage}
 use Rattle.monitor.specs.declared.state.MqttMonitor.{MqttMonitor}
-use Rattle.monitor.proofs.AlertLaws.{four, raised-count}
+use Rattle.monitor.proofs.alerts.AlertLaws.{four, raised-count}
 use Rattle.monitor.proofs.FoundLaws.{found-apart}
 
 -- the kinds of the alerts so far, after one more, after many, and from none

@@ -1,29 +1,19 @@
-pub mod AddLaws
-pub mod AlertLaws
-pub mod ApplyLaws
 pub mod Denied
-pub mod EndedLaws
-pub mod EveryLaws
-pub mod FormedLaws
+mod EveryLaws
 pub mod FoundLaws
 pub mod Four
-pub mod GateLaws
-pub mod KeptFormed
-pub mod KindLaws
 pub mod Link
-pub mod MoveLaws
 pub mod PlainLaws
-pub mod PlanLaws
 pub mod Prepared
 pub mod Reached
 pub mod Replies
-pub mod SoundBuckets
+mod SoundBuckets
 pub mod SoundCalls
-pub mod SoundIds
-pub mod SoundInspect
-pub mod SoundMoves
-pub mod SoundRules
-pub mod SoundTrackers
-pub mod SoundWindows
-pub mod StoreLaws
+mod SoundIds
+mod SoundInspect
+mod SoundMoves
+mod SoundRules
+mod SoundTrackers
+mod SoundWindows
+mod StoreLaws
 pub mod Total

@@ -20,7 +20,7 @@ use Rattle.tables.specs.declared.buckets.RateCheckResult.{RateCheckResult}
 use Rattle.tables.specs.declared.buckets.RateCheckResult.the-variants.{Allowed, Limited, EvictedAndDenied}
 use Rattle.tables.specs.declared.rules.TopicAction.{TopicAction}
 use Rattle.tables.specs.declared.rules.TopicRule.{TopicRule}
-use Rattle.tables.proofs.StepLaws.{grants, stored}
+use Rattle.tables.proofs.buckets.StepLaws.{grants, stored}
 use Rattle.monitor.specs.Gate.{isBlock, isTopical, endsEarly, deniedBy, passes, gateAfter, gateOf, rulingOf}
 use Rattle.monitor.specs.Inspect.{storedAt, applied, inspectRefusal, inspectWith}
 use Rattle.monitor.specs.Message.{typeNumber, usedTopic}

@@ -1,8 +1,6 @@
 -- Fresh monitors: no bucket of theirs is live and no alert is counted, and they are sound, so number 10 is not met in one. Assumes nothing.
-use mathlib.Core.Bool.{Bool, true, cond, _&&_}
-use mathlib.Core.List.{List}
+use mathlib.Core.Bool.{cond, _&&_}
 use mathlib.Core.Path.{_≡_, refl}
-use Prim.Native.Nat.{ℕ}
 use lib.Dec.{eqb, ltb}
 use lib.ListN.{replicate}
 use Rattle.laws.proofs.Cases.{by}

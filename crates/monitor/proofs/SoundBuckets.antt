@@ -5,16 +5,14 @@ use mathlib.Core.List.{List}
 use mathlib.Core.Path.{_≡_, refl, sym, _∙_}
 use Prim.Native.Nat.{ℕ, _≤_, _<_}
 use native.Mathlib.Omega.{arith}
-use lib.ListN.{length, getD, set, replicate, length-set, getD-replicate}
+use lib.ListN.{length, set, replicate, length-set, getD-replicate}
 use Rattle.laws.proofs.Tests.{both}
 use Rattle.tables.specs.Buckets.{holdsBucket, spend, made, decide, noBucket, emptyBucket}
 use Rattle.tables.specs.Identity.{idOf, isOf}
 use Rattle.tables.specs.declared.buckets.RateBucket.{RateBucket}
 use Rattle.tables.specs.declared.buckets.Spent.{Spent}
-use Rattle.tables.specs.declared.identity.Id.{Id}
-use Rattle.tables.proofs.BucketLaws.{Way, filled, taken, none, way, keeps}
-use Rattle.tables.proofs.LookupLaws.{live-first}
-use Rattle.tables.proofs.StepLaws.{bucketAt, stored, first, Absent, Step, hit, put, step}
+use Rattle.tables.proofs.buckets.BucketLaws.{Way, filled, taken, none, way, keeps}
+use Rattle.tables.proofs.buckets.StepLaws.{bucketAt, stored, first, Absent, Step, hit, put, step}
 use Rattle.laws.proofs.Lists.{each, pairs}
 use Rattle.monitor.specs.Sound.{sameId, SoundId, SoundBuckets}
 use Rattle.monitor.proofs.SoundIds.{sound-id, new-first, new-last}

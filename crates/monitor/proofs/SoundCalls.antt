@@ -1,50 +1,38 @@
 -- Every call hands out a sound state where it was given one, under any matcher, and the constructors do from nothing. A refused call hands the state back as given.
 -- Assumes nothing.
-use mathlib.Core.Bool.{Bool, true, false, cond, _&&_}
+use mathlib.Core.Bool.{true, _&&_}
 use mathlib.Core.List.{List}
 use mathlib.Core.Path.{_≡_, refl}
-use Prim.Native.Nat.{ℕ, _+_, _%_, _^_, _≤_, _<_, min}
+use Prim.Native.Nat.{ℕ, min}
 use native.Mathlib.Omega.{arith}
 use borrow.Author.Tests.{ltb-true, ltb-false, eqb-true, eqb-false}
 use lib.Dec.{eqb, ltb}
-use lib.ListN.{length, take, set, replicate, length-take}
-use Rattle.topics.specs.Hashes.{clientHashes}
 use Rattle.topics.specs.Patterns.{patternRefusal}
-use Rattle.topics.specs.Payload.{payloadHash}
 use Rattle.laws.proofs.Tests.{both}
 use Rattle.laws.proofs.Cases.{by}
-use Rattle.laws.proofs.Folds.{fold-keeps}
 use Rattle.tables.specs.Buckets.{bucketFine, emptyBucket, removedBucket}
 use Rattle.tables.specs.Identity.{idOf}
-use Rattle.tables.specs.Rules.{equalRule, ruleFine, emptyRule, noRule, isHeld, rulePlan}
+use Rattle.tables.specs.Rules.{equalRule, ruleFine, noRule, isHeld, rulePlan}
 use Rattle.tables.specs.Trackers.{trackerFine, emptyTracker, removedTracker}
-use Rattle.tables.specs.Windows.{windowFine, emptyWindow}
+use Rattle.tables.specs.Windows.{windowFine}
 use Rattle.tables.specs.declared.buckets.RateBucket.{RateBucket}
 use Rattle.tables.specs.declared.rules.QosPolicy.{QosPolicy}
 use Rattle.tables.specs.declared.rules.TopicAction.{TopicAction}
 use Rattle.tables.specs.declared.rules.TopicRule.{TopicRule}
 use Rattle.tables.specs.declared.trackers.EwmaTracker.{EwmaTracker}
 use Rattle.tables.specs.declared.windows.ClientStormEntry.{ClientStormEntry}
-use Rattle.monitor.specs.Alerts.{idAfter, raise, raiseAll, kindsOf}
 use Rattle.monitor.specs.Calls.{fresh, tested, withRule, addRule, removeRule, swapRules, clearRules, setStorm, removeBucket, removeTracker, resetState}
-use Rattle.monitor.specs.Inspect.{storedAt, applied, inspectRefusal, inspectWith}
-use Rattle.monitor.specs.Message.{typeNumber, usedTopic, usedPayload}
-use Rattle.monitor.specs.Plan.{seenOf, spentOf, fedOf, gateIn, planFrom, planOf}
 use Rattle.monitor.specs.Sound.{SoundBuckets, SoundWindows, SoundTrackers, Sound}
 use Rattle.laws.specs.Lists.{every}
 use Rattle.monitor.specs.State.{wellFormed, withRules, withSettings, withTables, withCounters, ended}
-use Rattle.monitor.specs.declared.alerts.Raised.{Raised}
-use Rattle.monitor.specs.declared.message.MqttMessage.{MqttMessage}
 use Rattle.monitor.specs.declared.state.MqttMonitor.{MqttMonitor}
 use Rattle.laws.proofs.Every.{every-set, every-first, first-every}
-use Rattle.monitor.proofs.FormedLaws.{formed-parts, parts-formed}
-use Rattle.monitor.proofs.KeptFormed.{kept-formed}
-use Rattle.monitor.proofs.SoundBuckets.{buckets-fresh, bucket-removed, buckets-after}
+use Rattle.monitor.proofs.state.FormedLaws.{formed-parts, parts-formed}
+use Rattle.monitor.proofs.SoundBuckets.{buckets-fresh, bucket-removed}
 use Rattle.monitor.proofs.SoundMoves.{rule-removed, rules-exchanged}
 use Rattle.monitor.proofs.SoundRules.{Ruled, no-rules, rule-overwritten, rule-added}
-use Rattle.monitor.proofs.SoundTrackers.{trackers-fresh, tracker-removed, trackers-after}
-use Rattle.monitor.proofs.SoundWindows.{windows-fresh, windows-after}
-use Rattle.monitor.proofs.StoreLaws.{stored-or-not}
+use Rattle.monitor.proofs.SoundTrackers.{trackers-fresh, tracker-removed}
+use Rattle.monitor.proofs.SoundWindows.{windows-fresh}
 
 -- a constructor
 pub sound-fresh : (default : TopicAction) → Sound (fresh default)

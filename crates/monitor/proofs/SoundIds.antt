@@ -14,7 +14,7 @@ use Rattle.laws.proofs.Tests.{both, fails}
 use Rattle.slices.proofs.bytes.SameLaws.{same-true}
 use Rattle.tables.specs.Identity.{prefixOf, idOf, isOf}
 use Rattle.tables.specs.declared.identity.Id.{Id}
-use Rattle.tables.proofs.IdentityLaws.{is-of-refl}
+use Rattle.tables.proofs.identity.IdentityLaws.{is-of-refl}
 use Rattle.monitor.specs.Sound.{sameId, SoundId}
 
 -- the identity of a topic

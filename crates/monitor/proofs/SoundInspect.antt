@@ -13,7 +13,7 @@ use Rattle.topics.specs.Payload.{payloadHash}
 use Rattle.laws.proofs.Cases.{by}
 use Rattle.laws.proofs.Folds.{fold-keeps}
 use Rattle.tables.specs.Identity.{idOf}
-use Rattle.monitor.specs.Alerts.{idAfter, noneRaised, raise, raiseAll, kindsOf}
+use Rattle.monitor.specs.Alerts.{idAfter, noneRaised, raise, raiseAll}
 use Rattle.monitor.specs.Inspect.{storedAt, applied, inspectRefusal, inspectWith}
 use Rattle.monitor.specs.Message.{typeNumber, usedTopic, usedPayload}
 use Rattle.monitor.specs.Plan.{seenOf, spentOf, fedOf, gateIn, planFrom, planOf}
@@ -21,7 +21,7 @@ use Rattle.monitor.specs.Sound.{SoundBuckets, SoundWindows, SoundTracker
 use Rattle.monitor.specs.declared.alerts.Raised.{Raised}
 use Rattle.monitor.specs.declared.message.MqttMessage.{MqttMessage}
 use Rattle.monitor.specs.declared.state.MqttMonitor.{MqttMonitor}
-use Rattle.monitor.proofs.KeptFormed.{applied-formed}
+use Rattle.monitor.proofs.state.KeptFormed.{applied-formed}
 use Rattle.monitor.proofs.SoundBuckets.{buckets-after}
 use Rattle.monitor.proofs.SoundTrackers.{trackers-after}
 use Rattle.monitor.proofs.SoundWindows.{windows-after}

@@ -2,7 +2,7 @@
 -- the old table, no two from one, so patterns stay different. Assumes nothing.
 use mathlib.Core.Bool.{false}
 use mathlib.Core.List.{List, _∷_, _++_}
-use mathlib.Core.Path.{_≡_, refl, sym, ap, _∙_}
+use mathlib.Core.Path.{_≡_, refl, ap, _∙_}
 use Prim.Native.Nat.{ℕ, suc, _+_, _-_, _≤_, _<_}
 use native.Mathlib.Omega.{arith}
 use borrow.Author.Tests.{ltb-true, ltb-false, eqb-true, eqb-false}
@@ -12,10 +12,9 @@ use lib.Seq.{getD-take, getD-drop, getD-append-add, getD-set-same, getD-set-othe
 use Rattle.slices.specs.Bytes.{same}
 use Rattle.laws.proofs.Cases.{by}
 use Rattle.slices.proofs.bytes.SameLaws.{same-sym}
-use Rattle.tables.specs.Rules.{patternOf, ruleFine, emptyRule, noRule}
+use Rattle.tables.specs.Rules.{patternOf, emptyRule, noRule}
 use Rattle.tables.specs.declared.rules.TopicRule.{TopicRule}
 use Rattle.monitor.specs.Calls.{without, exchanged}
-use Rattle.monitor.specs.Sound.{SoundRules}
 use Rattle.monitor.proofs.SoundRules.{Ruled}
 
 -- where the rule at a place of the new table `U` stood among the n of the old one: at a place that `R` allows

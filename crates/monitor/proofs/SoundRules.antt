@@ -1,28 +1,23 @@
 -- The rule table stays sound and each of its rules fine: with no rule, under a new rule, under one overwritten in place, and where rules move: one is removed, or
 -- two are exchanged. Rules that move come from different places, so their patterns stay different. Assumes nothing.
-use mathlib.Core.Bool.{Bool, true, false, _&&_}
-use mathlib.Core.List.{List, [], _∷_, _++_}
-use mathlib.Core.Path.{_≡_, refl, sym, _∙_}
-use Prim.Native.Nat.{ℕ, suc, _+_, _-_, _≤_, _<_, max}
+use mathlib.Core.Bool.{true, false, _&&_}
+use mathlib.Core.List.{List}
+use mathlib.Core.Path.{_≡_, refl, _∙_}
+use Prim.Native.Nat.{ℕ, _+_, _-_, _≤_, _<_, max}
 use native.Mathlib.Omega.{arith}
-use borrow.Author.Tests.{ltb-true, ltb-false, eqb-true, eqb-false, le-leb, eq-eqb}
-use lib.Dec.{eqb, ltb}
-use lib.ListN.{length, getD, take, drop, set, replicate, length-append, length-take, length-drop, length-set, length-replicate, getD-replicate, List·getD-append}
-use lib.Seq.{take-at, take-all, drop-at, getD-take, getD-drop, getD-append-add}
+use borrow.Author.Tests.{le-leb}
+use lib.ListN.{length, getD, take, drop, set, replicate, length-append, length-take, length-set, length-replicate, getD-replicate}
+use lib.Seq.{take-at, take-all, drop-at, getD-take}
 use Rattle.slices.specs.Bytes.{same}
 use Rattle.topics.specs.Patterns.{patternRefusal}
-use Rattle.laws.proofs.Cases.{by}
-use Rattle.topics.proofs.PatternLaws.{accepted-length}
-use Rattle.slices.proofs.bytes.SameLaws.{same-sym}
+use Rattle.topics.proofs.patterns.PatternLaws.{accepted-length}
 use Rattle.tables.specs.Rules.{patternOf, ruleFine, equalRule, emptyRule, noRule, ruleOf, overwritten}
-use Rattle.tables.specs.Scan.{find}
 use Rattle.tables.specs.declared.rules.QosPolicy.{QosPolicy}
 use Rattle.tables.specs.declared.rules.TopicAction.{TopicAction}
 use Rattle.tables.specs.declared.rules.TopicRule.{TopicRule}
-use Rattle.tables.proofs.RuleLaws.{fine-says}
+use Rattle.tables.proofs.rules.RuleLaws.{fine-says}
 use Rattle.tables.proofs.ScanLaws.{find-none}
 use Rattle.laws.proofs.Lists.{each, pairs}
-use Rattle.monitor.specs.Calls.{without, exchanged}
 use Rattle.monitor.specs.Sound.{SoundRules}
 
 -- the rule at a place

@@ -1,6 +1,6 @@
 -- The tracker table stays sound: all free at the start, under a removal, and under a fed message of a topic shorter than 65,536 bytes. A message of a held identity
 -- keeps it; a newcomer's was not held. Assumes nothing.
-use mathlib.Core.Bool.{Bool, true, false, not, true≢false, false≢true}
+use mathlib.Core.Bool.{true, false, true≢false, false≢true}
 use mathlib.Core.List.{List}
 use mathlib.Core.Path.{_≡_, refl, sym, _∙_}
 use Prim.Native.Nat.{ℕ, _<_}
@@ -13,7 +13,7 @@ use Rattle.tables.specs.Trackers.{holdsTracker, fed, freshTracker, feed, feedAt
 use Rattle.tables.specs.declared.trackers.EwmaTracker.{EwmaTracker}
 use Rattle.tables.specs.declared.trackers.TrackerDecision.{TrackerDecision}
 use Rattle.tables.proofs.ScanLaws.{seat-lt}
-use Rattle.tables.proofs.TrackerLaws.{isFree, lastUpdate}
+use Rattle.tables.proofs.trackers.TrackerLaws.{isFree, lastUpdate}
 use Rattle.laws.proofs.Lists.{each, pairs}
 use Rattle.monitor.specs.Sound.{sameId, SoundId, SoundTrackers}
 use Rattle.monitor.proofs.SoundIds.{sound-id, new-first, new-last}

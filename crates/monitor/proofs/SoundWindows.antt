@@ -1,6 +1,6 @@
 -- The table of CONNECT windows stays sound: all free at the start, and under a CONNECT. A stamp goes to the place past the last until 16 are held, so that zeros
 -- stay behind it; a client's own window keeps its hashes; a newcomer's were not held. Assumes nothing.
-use mathlib.Core.Bool.{Bool, true, false, cond, not, _&&_, true≢false, false≢true}
+use mathlib.Core.Bool.{true, false, _&&_, true≢false, false≢true}
 use mathlib.Core.List.{List}
 use mathlib.Core.Path.{_≡_, refl, sym, _∙_}
 use Prim.Native.Nat.{ℕ, suc, _+_, _-_, _%_, _≤_, _<_}
@@ -17,7 +17,7 @@ use Rattle.tables.specs.Windows.{holdsClient, recorded, freshWindow, connect, c
 use Rattle.tables.specs.declared.windows.ClientStormEntry.{ClientStormEntry}
 use Rattle.tables.specs.declared.windows.ConnectDecision.{ConnectDecision}
 use Rattle.tables.proofs.ScanLaws.{seat-lt}
-use Rattle.tables.proofs.WindowLaws.{isFree, lastSeen}
+use Rattle.tables.proofs.windows.WindowLaws.{isFree, lastSeen}
 use Rattle.laws.proofs.Lists.{each, pairs}
 use Rattle.monitor.specs.Sound.{sameClient, SoundWindows}
 use Rattle.monitor.proofs.StoreLaws.{looked-up}

@@ -17,7 +17,7 @@ use Rattle.monitor.specs.Runs.{Call, answer, after, alertsIn}
 use Rattle.monitor.specs.Told.{TotalIsSum}
 use Rattle.monitor.specs.declared.message.MqttMessage.{MqttMessage}
 use Rattle.monitor.specs.declared.state.MqttMonitor.{MqttMonitor}
-use Rattle.monitor.proofs.AlertLaws.{raised-total}
+use Rattle.monitor.proofs.alerts.AlertLaws.{raised-total}
 use Rattle.monitor.proofs.Four.{at-most-four, all-counted}
 use Rattle.monitor.proofs.Prepared.{no-alerts}
 

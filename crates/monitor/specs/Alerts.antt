@@ -1,7 +1,7 @@
 -- Document 01, "Order inside one inspection": the kinds of a message's alerts in their order, and what each alert carries. Severity and hash go by the kind;
 -- ids and the total are counted on.
 -- Assumes nothing.
-use mathlib.Core.Bool.{Bool, true, false, cond, not, _&&_, _||_}
+use mathlib.Core.Bool.{Bool, true, false, cond, _||_}
 use mathlib.Core.List.{List, [], _∷_, _++_, foldl, map}
 use Prim.Native.Nat.{ℕ, _+_, _%_, _^_, min}
 use lib.Dec.{eqb, ltb}

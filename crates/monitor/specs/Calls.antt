@@ -1,15 +1,14 @@
 -- The other calls (document 01, "Numbers handed back", "What the hub takes over"): constructors, rules, CONNECT settings, removals, reset. Each gives its refusal as
 -- one number, 0 for none, in the document's order; 10 is tested first.
 -- Assumes nothing.
-use mathlib.Core.Bool.{Bool, true, false, cond, _&&_}
+use mathlib.Core.Bool.{cond, _&&_}
 use mathlib.Core.List.{List, _∷_, _++_}
 use Prim.Native.Nat.{ℕ, _+_, _-_, min, max}
-use lib.Dec.{eqb, ltb, leb}
-use lib.ListN.{length, getD, take, drop, set, replicate}
-use Rattle.topics.specs.Patterns.{patternRefusal}
+use lib.Dec.{ltb}
+use lib.ListN.{getD, take, drop, set, replicate}
 use Rattle.tables.specs.Identity.{idOf}
 use Rattle.tables.specs.Buckets.{emptyBucket, removedBucket}
-use Rattle.tables.specs.Rules.{equalRule, shadowCount, emptyRule, noRule}
+use Rattle.tables.specs.Rules.{shadowCount, emptyRule, noRule}
 use Rattle.tables.specs.Trackers.{emptyTracker, removedTracker}
 use Rattle.tables.specs.Windows.{emptyWindow}
 use Rattle.tables.specs.declared.rules.QosPolicy.{QosPolicy}

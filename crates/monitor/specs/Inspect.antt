@@ -1,6 +1,6 @@
 -- `inspect` (document 01, "Order inside one inspection" and "Numbers handed back"): its refusals, and the state with the plan applied.
 -- Assumes nothing.
-use mathlib.Core.Bool.{Bool, true, false, cond}
+use mathlib.Core.Bool.{Bool, false, cond}
 use mathlib.Core.List.{List}
 use Prim.Native.Nat.{ℕ}
 use lib.Dec.{eqb, ltb}

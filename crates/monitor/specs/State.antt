@@ -4,7 +4,7 @@ use mathlib.Core.Bool.{Bool, true, cond, _&&_}
 use mathlib.Core.List.{List, [], _∷_}
 use Prim.Native.Nat.{ℕ}
 use lib.Dec.{eqb, leb}
-use lib.ListN.{take, set}
+use lib.ListN.{take}
 use Rattle.tables.specs.declared.buckets.RateBucket.{RateBucket}
 use Rattle.tables.specs.declared.rules.TopicRule.{TopicRule}
 use Rattle.tables.specs.declared.trackers.EwmaTracker.{EwmaTracker}

@@ -13,13 +13,10 @@ use tables::rules::TopicRule;
 use tables::rules::empty_rule;
 use tables::rules::plan_rule;
 use tables::rules::shadow_count;
-ghost use mathlib.Core.List.{_++_};
 ghost use mathlib.Core.Path.{_≡_};
-ghost use Prim.Native.Nat.{_-_, _≤_, _<_, min};
-ghost use lib.Dec.{ltb};
-ghost use lib.ListN.{length, take, set, replicate};
+ghost use Prim.Native.Nat.{_-_, _≤_, _<_};
+ghost use lib.ListN.{set};
 ghost use Rattle.monitor.specs.State.{withRules};
-ghost use Rattle.tables.specs.Rules.{ruleOf, overwritten, notTaken, rulePlan};
 ghost use Rattle.monitor.specs.Calls.{shadowsIn, addRule, without, removeRule, swapRules, clearRules, validateRules};
 
 // A rule is stored; the shadow count is of the table after it.

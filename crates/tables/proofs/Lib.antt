@@ -1,15 +1,2 @@
-pub mod BucketLaws
-pub mod DecideLaws
-pub mod IdentityLaws
 pub mod LookupLaws
-pub mod NumberLaws
-pub mod PlaceLaws
-pub mod PlanLaws
-pub mod PrefixLaws
-pub mod RefillLaws
-pub mod RuleLaws
 pub mod ScanLaws
-pub mod ShadowLaws
-pub mod StepLaws
-pub mod TrackerLaws
-pub mod WindowLaws

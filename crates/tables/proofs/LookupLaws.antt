@@ -1,6 +1,6 @@
 -- Looking a record up in a table, whatever its records are: `f` at the place of the first that passes a test, else `f` at a newcomer's place `s` with the new
 -- record `w`. CONNECT windows and payload trackers are looked up so. Assumes nothing.
-use mathlib.Core.Path.{_≡_, refl, ap, _∙_}
+use mathlib.Core.Path.{_≡_, ap, _∙_}
 use mathlib.Core.Bool.{Bool, true, false, cond}
 use mathlib.Core.List.{List}
 use Prim.Native.Nat.{ℕ, _<_, _≤_}

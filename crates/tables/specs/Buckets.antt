@@ -12,7 +12,6 @@ use Rattle.tables.specs.declared.identity.Id.{Id}
 use Rattle.tables.specs.declared.buckets.RateBucket.{RateBucket}
 use Rattle.tables.specs.declared.buckets.Spent.{Spent}
 use Rattle.tables.specs.declared.buckets.RateDecision.{RateDecision}
-use Rattle.tables.specs.declared.buckets.RateCheckResult.{RateCheckResult}
 use Rattle.tables.specs.declared.buckets.RateCheckResult.the-variants.{Allowed, Limited, EvictedAndDenied}
 
 -- the same bucket with other tokens and another refill time

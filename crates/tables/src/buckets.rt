@@ -11,6 +11,7 @@ ghost use Rattle.tables.specs.Buckets.{withTokens, refilled, takeToken, 
 
 // How many token buckets a monitor holds.
 pub const BUCKETS: usize = 32;
+
 const LAST: usize = BUCKETS - 1;
 
 // How long a bucket may be idle before a newcomer takes its place with its full rate, in microseconds.

@@ -13,6 +13,7 @@ ghost use Rattle.tables.specs.Trackers.{saturated, meanAfter, threshold,
 
 // How many payload trackers a monitor holds.
 pub const TRACKERS: usize = 16;
+
 const LAST: usize = TRACKERS - 1;
 
 pub struct EwmaTracker {

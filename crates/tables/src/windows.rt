@@ -9,7 +9,9 @@ ghost use Rattle.tables.specs.Windows.{freshWindow, recorded, inWindow, 
 
 // How many CONNECT windows a monitor holds, and how many stamps a window keeps.
 pub const WINDOWS: usize = 16;
+
 pub const STAMPS: usize = 16;
+
 const LAST: usize = WINDOWS - 1;
 
 pub struct ClientStormEntry {

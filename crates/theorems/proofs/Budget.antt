@@ -19,9 +19,9 @@ use Rattle.tables.specs.Buckets.{noBucket, holdsBucket, spend, made, isExpired}
 use Rattle.tables.specs.Identity.{isOf}
 use Rattle.tables.specs.declared.identity.Id.{Id}
 use Rattle.tables.specs.declared.buckets.RateBucket.{RateBucket}
-use Rattle.tables.proofs.BucketLaws.{level, one, Good, spends, makes, keeps, wait}
-use Rattle.tables.proofs.IdentityLaws.{OfTopic}
-use Rattle.tables.proofs.StepLaws.{bucketAt, timeAt, Absent, free, worn, first, Step, hit, put, expired}
+use Rattle.tables.proofs.buckets.BucketLaws.{level, one, Good, spends, makes, keeps, wait}
+use Rattle.tables.proofs.identity.IdentityLaws.{OfTopic}
+use Rattle.tables.proofs.buckets.StepLaws.{bucketAt, timeAt, Absent, free, worn, first, Step, hit, put, expired}
 use Rattle.laws.proofs.Lists.{each}
 use Rattle.theorems.proofs.Holders.{clash, Named, same-holder, held-live, made-holder, not-mine, mine, absent-mine, absent-other}
 

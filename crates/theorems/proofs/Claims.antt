@@ -1,6 +1,6 @@
 -- All that we claim, gathered from the files that prove it. Assumes nothing.
-use Rattle.topics.proofs.Difference.{port-differs}
-use Rattle.topics.proofs.Meaning.{meaning}
+use Rattle.topics.proofs.matching.Difference.{port-differs}
+use Rattle.topics.proofs.matching.Meaning.{meaning}
 use Rattle.lines.proofs.Round.{round}
 use Rattle.monitor.proofs.Denied.{denied-by-kind}
 use Rattle.monitor.proofs.Four.{four-at-most, none-dropped}

@@ -9,9 +9,9 @@ use Rattle.tables.specs.Buckets.{noBucket, holdsBucket, spend, made}
 use Rattle.tables.specs.Identity.{isOf}
 use Rattle.tables.specs.declared.identity.Id.{Id}
 use Rattle.tables.specs.declared.buckets.RateBucket.{RateBucket}
-use Rattle.tables.proofs.BucketLaws.{keeps}
-use Rattle.tables.proofs.IdentityLaws.{OfTopic, of-true, of-like}
-use Rattle.tables.proofs.StepLaws.{first, bucketAt, Absent, Step, hit, put}
+use Rattle.tables.proofs.buckets.BucketLaws.{keeps}
+use Rattle.tables.proofs.identity.IdentityLaws.{OfTopic, of-true, of-like}
+use Rattle.tables.proofs.buckets.StepLaws.{first, bucketAt, Absent, Step, hit, put}
 use Rattle.laws.proofs.Lists.{each}
 
 -- two opposite answers

@@ -1,24 +1,24 @@
-pub mod AnswersCut
-pub mod AnswersHub
-pub mod AnswersLines
-pub mod AnswersLoops
-pub mod AnswersMonitor
-pub mod AnswersTables
-pub mod AnswersTopics
-pub mod AnswersTrace
-pub mod Budget
-pub mod Claims
-pub mod Corners
-pub mod Cuts
-pub mod Holders
-pub mod Loop
-pub mod Lower
-pub mod Printed
-pub mod Reach
-pub mod Seats
-pub mod ShutOut
-pub mod Slips
-pub mod Tight
-pub mod Turns
-pub mod Upper
-pub mod Witness
+mod AnswersCut
+mod AnswersHub
+mod AnswersLines
+mod AnswersLoops
+mod AnswersMonitor
+mod AnswersTables
+mod AnswersTopics
+mod AnswersTrace
+mod Budget
+mod Claims
+mod Corners
+mod Cuts
+mod Holders
+mod Loop
+mod Lower
+mod Printed
+mod Reach
+mod Seats
+mod ShutOut
+mod Slips
+mod Tight
+mod Turns
+mod Upper
+mod Witness

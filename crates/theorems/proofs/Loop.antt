@@ -1,6 +1,6 @@
 -- The loop of `loops` is a run of inspections (specs/Printed.antt, `Looped`): each message lends exactly what it uses, so `inspect` applies the plan that the loop applies.
 -- Assumes nothing.
-use mathlib.Core.Bool.{Bool, true, cond}
+use mathlib.Core.Bool.{Bool, true}
 use mathlib.Core.List.{List, [], _∷_, _++_}
 use mathlib.Core.Path.{_≡_, refl, sym, ap, _∙_}
 use Prim.Native.Nat.{ℕ, zero, suc, _+_, _*_, _≤_, min}
@@ -16,17 +16,17 @@ use Rattle.tables.specs.declared.rules.QosPolicy.the-variants.{MinQoS}
 use Rattle.tables.specs.declared.rules.TopicAction.the-variants.{Allow, Block}
 use Rattle.monitor.specs.Inspect.{doneWith}
 use Rattle.monitor.specs.Prepared.{Prepared, made, rule}
-use Rattle.monitor.specs.Runs.{Call, Exact, Reply, answer, after, replies, isInspected, isPassed}
+use Rattle.monitor.specs.Runs.{Call, Exact, Reply, answer, after, replies, isInspected}
 use Rattle.laws.specs.Lists.{every}
 use Rattle.monitor.specs.State.{wellFormed}
 use Rattle.monitor.specs.declared.inspection.Inspected.{Inspected}
 use Rattle.monitor.specs.declared.state.MqttMonitor.{MqttMonitor}
-use Rattle.monitor.proofs.KeptFormed.{kept-formed}
+use Rattle.monitor.proofs.state.KeptFormed.{kept-formed}
 use Rattle.monitor.proofs.Prepared.{prepared-sound}
 use Rattle.monitor.proofs.Replies.{exact-done}
 use Rattle.loops.specs.Inspections.{patternOf, fromAt, ruled, readied, planAt, stateAfter, allowedAfter}
-use Rattle.loops.proofs.LoopLaws.{next-within, all-run}
-use Rattle.theorems.specs.Printed.{passed, callAt, callsTo, loopReplies, Looped, LoopLimits}
+use Rattle.loops.proofs.inspections.LoopLaws.{next-within, all-run}
+use Rattle.theorems.specs.Printed.{passed, callAt, callsTo, loopReplies, LoopLimits}
 use Rattle.theorems.specs.Run.{time, InOrder, nothing, single, later}
 use Rattle.theorems.proofs.Cuts.{after-two}
 use Rattle.theorems.proofs.Printed.{topic-limits}

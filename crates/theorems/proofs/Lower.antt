@@ -14,9 +14,9 @@ use Rattle.laws.proofs.Cases.{by}
 use Rattle.tables.specs.Identity.{idOf, isOf}
 use Rattle.tables.specs.declared.identity.Id.{Id}
 use Rattle.tables.specs.declared.buckets.RateBucket.{RateBucket}
-use Rattle.tables.proofs.BucketLaws.{earned}
-use Rattle.tables.proofs.IdentityLaws.{OfTopic}
-use Rattle.tables.proofs.StepLaws.{bucketAt, Absent, Step, hit, put}
+use Rattle.tables.proofs.buckets.BucketLaws.{earned}
+use Rattle.tables.proofs.identity.IdentityLaws.{OfTopic}
+use Rattle.tables.proofs.buckets.StepLaws.{bucketAt, Absent, Step, hit, put}
 use Rattle.monitor.specs.declared.state.MqttMonitor.{MqttMonitor}
 use Rattle.monitor.proofs.Prepared.{all-free}
 use Rattle.theorems.specs.Limits.{LowerFirst, LowerLater}

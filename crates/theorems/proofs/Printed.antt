@@ -1,6 +1,6 @@
 -- Demand 3 of the replies of a run (specs/Printed.antt). A list of replies that is cut cuts the run; a reply to a Publish of the topic is one that reaches the limiter with the
 -- topic's identity, under the topic's rate, and the other way round; so the replies that pass are those that specs/Limits.antt counts. Assumes nothing.
-use mathlib.Core.Bool.{Bool, true, false, cond, not, _&&_, false≢true}
+use mathlib.Core.Bool.{Bool, true, not, _&&_, false≢true}
 use mathlib.Core.List.{List, [], _∷_, _++_, append-assoc, nil≢cons, head-eq-of-cons-eq, tail-eq-of-cons-eq}
 use mathlib.Core.Path.{_≡_, refl, sym, ap, _∙_, subst}
 use Prim.Native.Nat.{ℕ, _+_, _-_, _*_, _/_, _<_, _≤_}
@@ -14,7 +14,7 @@ use Rattle.laws.proofs.Tests.{both, alike, fails}
 use Rattle.laws.proofs.Cases.{by}
 use Rattle.slices.proofs.bytes.SameLaws.{same-true, same-refl}
 use Rattle.tables.specs.Identity.{idOf, isOf}
-use Rattle.tables.proofs.IdentityLaws.{is-of-refl, is-of-exact}
+use Rattle.tables.proofs.identity.IdentityLaws.{is-of-refl, is-of-exact}
 use Rattle.monitor.specs.Inspect.{inspectRefusal, inspectWith}
 use Rattle.monitor.specs.Prepared.{Prepared}
 use Rattle.monitor.specs.Runs.{Call, Reply, answer, after, replies, isInspected, isPassed}

@@ -1,6 +1,6 @@
 -- Which messages reach the limiter, in document 01's words (`rateOf` in specs/Run.antt), are those to which the gate hands out a rate, and it is the same rate: under any matcher,
 -- for every state and call. Assumes nothing.
-use mathlib.Core.Bool.{Bool, true, false, cond, not, _&&_, false≢true}
+use mathlib.Core.Bool.{Bool, true, false, cond, _&&_, false≢true}
 use mathlib.Core.List.{List, [], _∷_}
 use mathlib.Core.Path.{_≡_, refl, sym, _∙_}
 use Prim.Native.Nat.{ℕ, _≤_, min}
@@ -28,7 +28,7 @@ use Rattle.monitor.specs.declared.gate.Gate.{Gate}
 use Rattle.monitor.specs.declared.gate.Ruling.{Ruling}
 use Rattle.monitor.specs.declared.message.MqttMessage.{MqttMessage}
 use Rattle.monitor.specs.declared.state.MqttMonitor.{MqttMonitor}
-use Rattle.monitor.proofs.FormedLaws.{formed-parts}
+use Rattle.monitor.proofs.state.FormedLaws.{formed-parts}
 use Rattle.monitor.proofs.Link.{reaching}
 use Rattle.theorems.specs.Run.{Matcher, used, isPublish, rateIf, firstRate, rateOf}
 

@@ -13,13 +13,13 @@ use Rattle.tables.specs.Buckets.{noBucket, emptyBucket, holdsBucket}
 use Rattle.tables.specs.Identity.{idOf}
 use Rattle.tables.specs.declared.identity.Id.{Id}
 use Rattle.tables.specs.declared.buckets.RateBucket.{RateBucket}
-use Rattle.tables.proofs.IdentityLaws.{OfTopic, of-topic}
-use Rattle.tables.proofs.StepLaws.{bucketAt, Absent, Step, hit, put, step}
+use Rattle.tables.proofs.identity.IdentityLaws.{OfTopic, of-topic}
+use Rattle.tables.proofs.buckets.StepLaws.{bucketAt, Absent, Step, hit, put, step}
 use Rattle.monitor.specs.Inspect.{inspectRefusal}
 use Rattle.monitor.specs.Plan.{gateIn}
 use Rattle.monitor.specs.State.{wellFormed}
 use Rattle.monitor.specs.declared.state.MqttMonitor.{MqttMonitor}
-use Rattle.monitor.proofs.KeptFormed.{kept-formed}
+use Rattle.monitor.proofs.state.KeptFormed.{kept-formed}
 use Rattle.monitor.proofs.Prepared.{all-free}
 use Rattle.monitor.proofs.Link.{SameRules, refused, rules-stay, not-asked, asked, allowed}
 use Rattle.monitor.specs.Runs.{Call, answer, after}

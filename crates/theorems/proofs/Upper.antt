@@ -12,7 +12,7 @@ use Rattle.laws.proofs.Cases.{by}
 use Rattle.tables.specs.Identity.{idOf, isOf}
 use Rattle.tables.specs.declared.identity.Id.{Id}
 use Rattle.tables.specs.declared.buckets.RateBucket.{RateBucket}
-use Rattle.tables.proofs.BucketLaws.{one}
+use Rattle.tables.proofs.buckets.BucketLaws.{one}
 use Rattle.monitor.specs.declared.state.MqttMonitor.{MqttMonitor}
 use Rattle.theorems.specs.Limits.{Upper}
 use Rattle.monitor.specs.Runs.{Call, answer, after}

@@ -1,6 +1,6 @@
 -- The trace, by computation. Assumes nothing.
 use mathlib.Core.Path.{refl}
-use Prim.Native.Nat.{ℕ, _≤_}
+use Prim.Native.Nat.{_≤_}
 use native.Mathlib.Omega.{arith}
 use Rattle.lines.specs.Decimal.{decimal, decimalIn}
 use Rattle.lines.specs.Every as lines-every

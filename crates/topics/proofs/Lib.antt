@@ -1,12 +1,2 @@
-pub mod BitLaws
-pub mod ByteLaws
-pub mod Difference
-pub mod HashLaws
-pub mod LevelLaws
-pub mod MatchLaws
-pub mod Meaning
-pub mod PatternLaws
-pub mod Placed
-pub mod PlacedLaws
-pub mod ScanLaws
-pub mod StandardLaws
+mod ByteLaws
+mod LevelLaws

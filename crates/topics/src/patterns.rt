@@ -49,6 +49,7 @@ pub fn validate_mqtt_wildcard(pattern: &[u8]) -> bool
 
 // How long a pattern may be, and how many `+` it may have.
 pub const PATTERN_MAX: usize = 64;
+
 const PLUS_MAX: usize = 3;
 
 // 0, or the number that refuses the pattern: what `add_rule`, number 10 and the standard matcher's domain go by.

@@ -16,7 +16,7 @@ use Rattle.monitor.specs.State.{wellFormed}
 use Rattle.monitor.specs.declared.inspection.Inspected.{Inspected}
 use Rattle.monitor.specs.declared.state.MqttMonitor.{MqttMonitor}
 use Rattle.laws.proofs.Cases.{whichever}
-use Rattle.monitor.proofs.KeptFormed.{applied-formed}
+use Rattle.monitor.proofs.state.KeptFormed.{applied-formed}
 use Rattle.monitor.proofs.Prepared.{prepared-sound}
 use Rattle.monitor.proofs.Replies.{exact-done}
 use Rattle.trace.specs.AsRun.{recordsText, AsRun}
@@ -24,8 +24,8 @@ use Rattle.trace.specs.Groups.{openingOf, ruleAt, messageAt}
 use Rattle.trace.specs.Record.{recordText, closingText}
 use Rattle.trace.specs.Trace.{Messages, Loaded, ruleInto, rulesInto, loadedFrom, loaded, messagesFrom, messagesOf, planned, textFrom, traceText}
 use Rattle.trace.specs.declared.groups.RuleLines.{RuleLines}
-use Rattle.trace.proofs.GroupLaws.{message-within}
-use Rattle.trace.proofs.RunLaws.{sentAt}
+use Rattle.trace.proofs.groups.GroupLaws.{message-within}
+use Rattle.trace.proofs.run.RunLaws.{sentAt}
 
 -- only rules are added to a fresh monitor
 rule-prepared : (m : MqttMonitor) (s : List ℕ) (line : ℕ) (r : RuleLines) → Prepared m → Prepared (ruleInto m s line r .monitor)

@@ -26,8 +26,8 @@ use Rattle.monitor.specs.declared.state.Called.{Called}
 use Rattle.monitor.specs.declared.state.MqttMonitor.{MqttMonitor}
 use Rattle.trace.specs.Groups.{openingOf, ruleAt, messageAt}
 use Rattle.trace.specs.Trace.{Loaded, Messages, ruleInto, rulesInto, loadedFrom, loaded, messagesFrom, messagesOf, textFrom, traceText, enough}
-use Rattle.trace.proofs.RecordLaws.{closing-short}
-use Rattle.trace.proofs.GroupLaws.{opening-within, opening-further, rule-within, rule-further, message-within, message-further}
+use Rattle.trace.proofs.record.RecordLaws.{closing-short}
+use Rattle.trace.proofs.groups.GroupLaws.{opening-within, opening-further, rule-within, rule-further, message-within, message-further}
 use Rattle.trace.proofs.PlanBounds.{Counted, applied-counted, result-short}
 
 -- the text of so many messages

@@ -1,9 +1,4 @@
 pub mod AsRun
 pub mod Bound
-pub mod BufferLaws
-pub mod GroupLaws
-pub mod LineBounds
-pub mod LoadLaws
-pub mod PlanBounds
-pub mod RecordLaws
-pub mod RunLaws
+mod LineBounds
+mod PlanBounds

@@ -20,10 +20,10 @@ use Rattle.lines.specs.declared.value.Number.{Number}
 use Rattle.lines.specs.declared.value.Number.the-variants.{Value, Bad}
 use Rattle.laws.proofs.Cases.{by}
 use Rattle.lines.proofs.DecimalRound.{decimal-range}
-use Rattle.lines.proofs.FieldLaws.{within-refused, line-inside, line-room}
+use Rattle.lines.proofs.read.FieldLaws.{within-refused, line-inside, line-room}
 use Rattle.lines.proofs.HexRound.{unhex-length}
-use Rattle.lines.proofs.ReadHexLaws.{hex-taken}
-use Rattle.lines.proofs.SpanLaws.{span-whole}
+use Rattle.lines.proofs.value.HexLaws.{hex-taken}
+use Rattle.lines.proofs.held.SpanLaws.{span-whole}
 
 -- an answer that lies in its text, with a number that lines give
 pub record Answer (s : List ℕ) (f : Field) : Type 0 where

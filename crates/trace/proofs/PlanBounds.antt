@@ -9,7 +9,7 @@ use lib.Dec.{eqb, ltb}
 use lib.ListN.{length, take, set, length-append, length-set, length-take}
 use borrow.Author.Tests.{ltb-true, ne-eqb}
 use Rattle.topics.specs.Payload.{payloadHash}
-use Rattle.topics.proofs.HashLaws.{payload-length}
+use Rattle.topics.proofs.hashes.HashLaws.{payload-length}
 use Rattle.laws.proofs.Cases.{by, by-le, whichever}
 use Rattle.monitor.specs.Alerts.{denies, hashOf, when, kindsOf, noAlert, noneRaised, raise, raiseAll}
 use Rattle.monitor.specs.Inspect.{applied, resultOf}
@@ -21,7 +21,7 @@ use Rattle.monitor.specs.declared.message.MqttMessage.{MqttMessage}
 use Rattle.monitor.specs.declared.state.MqttMonitor.{MqttMonitor}
 use Rattle.monitor.proofs.FoundLaws.{Settled, found-settled}
 use Rattle.trace.specs.Record.{alertsText, recordText}
-use Rattle.trace.proofs.RecordLaws.{Typed, alert-short, record-short}
+use Rattle.trace.proofs.record.RecordLaws.{Typed, alert-short, record-short}
 
 -- kinds are 1 to 11
 data Small : List ℕ → Type 0 where

@@ -12,15 +12,11 @@ use Rattle.lines.specs.Field.{numberField, wordField, hexField, hexKept}
 use Rattle.lines.specs.ReadHex.{unhex}
 use Rattle.lines.specs.Span.{part}
 use Rattle.lines.specs.declared.read.Field.{Field}
-use Rattle.tables.specs.declared.rules.MqttQoS.{MqttQoS}
-use Rattle.tables.specs.declared.rules.MqttQoS.the-variants.{AtMostOnce, AtLeastOnce, ExactlyOnce}
-use Rattle.tables.specs.declared.rules.QosPolicy.{QosPolicy}
-use Rattle.tables.specs.declared.rules.QosPolicy.the-variants.{Any, MinQoS, ExactQoS}
-use Rattle.tables.specs.declared.rules.TopicAction.{TopicAction}
-use Rattle.tables.specs.declared.rules.TopicAction.the-variants.{Allow, Block}
+use Rattle.tables.specs.declared.rules.MqttQoS.the-variants.{AtMostOnce}
+use Rattle.tables.specs.declared.rules.QosPolicy.the-variants.{Any}
+use Rattle.tables.specs.declared.rules.TopicAction.the-variants.{Allow}
 use Rattle.monitor.specs.declared.message.MqttMessage.{MqttMessage}
-use Rattle.monitor.specs.declared.message.MqttPacketType.{MqttPacketType}
-use Rattle.monitor.specs.declared.message.MqttPacketType.the-variants.{Connect, ConnAck, Publish, PubAck, PubRec, PubRel, PubComp, Subscribe, SubAck, Unsubscribe, UnsubAck, PingReq, PingResp, Disconnect, Auth}
+use Rattle.monitor.specs.declared.message.MqttPacketType.the-variants.{Connect}
 use Rattle.trace.specs.declared.groups.OpeningLines.{OpeningLines}
 use Rattle.trace.specs.declared.groups.RuleLines.{RuleLines}
 use Rattle.trace.specs.declared.groups.MessageLines.{MessageLines}

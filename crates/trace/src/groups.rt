@@ -9,8 +9,6 @@ use tables::rules::MqttQoS;
 use tables::rules::QosPolicy;
 use tables::rules::TopicAction;
 ghost use mathlib.Core.Path.{_≡_};
-ghost use Rattle.tables.specs.Numbers.{actionAt, qosAt, policyAt};
-ghost use Rattle.monitor.specs.Message.{typeAt};
 ghost use Rattle.trace.specs.Groups.{openingStopped, openingOf, OpeningIn, ruleStopped, ruleAt, patternKept, RuleIn, messageStopped, messageAt, topicKept, payloadKept, MessageIn};
 
 // What an opening's two lines gave. Refused: the number, and which line of the group it is, the first being 0; `next` is the place after the last line read.

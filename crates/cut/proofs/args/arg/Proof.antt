@@ -1,5 +1,4 @@
 -- `cut::args::arg` meets its contract, by the two cases of the test. Assumes nothing.
-use mathlib.Core.Path.{sym, _∙_}
 use borrow.Author.Needs.{needs}
 use Rattle.cut.specs.Args.{argOf}
 use Rattle.cut.proofs.args.arg.Statement.{statement}

@@ -3,7 +3,7 @@ use mathlib.Core.Path.{_≡_, refl, sym, _∙_}
 use native.Mathlib.Omega.{arith}
 use borrow.Author.Needs.{needs}
 use Rattle.cut.specs.Args.{restOf}
-use Rattle.cut.proofs.ArgLaws.{rest-turn, rest-end}
+use Rattle.cut.proofs.args.ArgLaws.{rest-turn, rest-end}
 use Rattle.cut.proofs.args.rest.Statement.{statement}
 use Rattle.cut.proofs.args.rest.Tie as tie
 

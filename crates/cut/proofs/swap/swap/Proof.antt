@@ -4,7 +4,7 @@ use native.Mathlib.Omega.{arith}
 use borrow.Author.Tests.{ltb-true, ltb-false}
 use lib.ListN.{length-take}
 use borrow.Author.Needs.{needs}
-use Rattle.cut.proofs.SwapLaws.{Swapping, swapping-none, swapping-next, swapping-all}
+use Rattle.cut.proofs.swap.SwapLaws.{Swapping, swapping-none, swapping-next, swapping-all}
 use Rattle.cut.proofs.swap.swap.Statement.{statement}
 use Rattle.cut.proofs.swap.swap.Tie as tie
 

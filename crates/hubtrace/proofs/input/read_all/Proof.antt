@@ -5,7 +5,7 @@ use mathlib.Core.Path.{_≡_}
 use native.Mathlib.Omega.{arith}
 use borrow.Author.Needs.{needs}
 use lib.ListN.{length}
-use Rattle.hubtrace.proofs.TurnLaws.{moved-within}
+use Rattle.hubtrace.proofs.turn.TurnLaws.{moved-within}
 use Rattle.hubtrace.proofs.input.read_all.Statement.{statement}
 use Rattle.hubtrace.proofs.input.read_all.Tie as tie
 

@@ -1,6 +1,6 @@
 -- `read_once` meets its contract: the C library's word for how many bytes it moved, as `came_to` takes it. Assumes nothing.
 use borrow.Author.Needs.{needs}
-use Rattle.hubtrace.proofs.TurnLaws.{came-fits}
+use Rattle.hubtrace.proofs.turn.TurnLaws.{came-fits}
 use Rattle.hubtrace.proofs.input.read_once.Statement.{statement}
 use Rattle.hubtrace.proofs.input.read_once.Tie as tie
 

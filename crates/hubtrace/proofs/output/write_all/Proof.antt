@@ -1,10 +1,9 @@
 -- `write_all` meets its contract. The loop's invariant: no more bytes were taken than there are. The measure is the turns that are left. Assumes nothing.
 use Prim.Native.Nat.{_+_, _≤_}
-use mathlib.Core.Path.{_≡_}
 use native.Mathlib.Omega.{arith}
 use borrow.Author.Needs.{needs}
 use lib.ListN.{length}
-use Rattle.hubtrace.proofs.TurnLaws.{moved-within}
+use Rattle.hubtrace.proofs.turn.TurnLaws.{moved-within}
 use Rattle.hubtrace.proofs.output.write_all.Statement.{statement}
 use Rattle.hubtrace.proofs.output.write_all.Tie as tie
 

@@ -1,7 +1,7 @@
 -- `write_once` meets its contract. Assumes nothing.
 use mathlib.Core.Path.{refl}
 use borrow.Author.Needs.{needs}
-use Rattle.hubtrace.proofs.TurnLaws.{came-fits}
+use Rattle.hubtrace.proofs.turn.TurnLaws.{came-fits}
 use Rattle.hubtrace.proofs.output.write_once.Statement.{statement}
 use Rattle.hubtrace.proofs.output.write_once.Tie as tie
 

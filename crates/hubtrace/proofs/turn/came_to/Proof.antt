@@ -1,6 +1,6 @@
 -- `came_to` meets its contract. Assumes nothing.
 use borrow.Author.Needs.{needs}
-use Rattle.hubtrace.proofs.TurnLaws.{came-missed, came-moved}
+use Rattle.hubtrace.proofs.turn.TurnLaws.{came-missed, came-moved}
 use Rattle.hubtrace.proofs.turn.came_to.Statement.{statement}
 use Rattle.hubtrace.proofs.turn.came_to.Tie as tie
 

@@ -1,5 +1,5 @@
 -- `missed` meets its contract. Assumes nothing.
-use Rattle.hubtrace.proofs.TurnLaws.{missed-interrupted, missed-blocked, missed-failed}
+use Rattle.hubtrace.proofs.turn.TurnLaws.{missed-interrupted, missed-blocked, missed-failed}
 use Rattle.hubtrace.proofs.turn.missed.Statement.{statement}
 use Rattle.hubtrace.proofs.turn.missed.Tie as tie
 

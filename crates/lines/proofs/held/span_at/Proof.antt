@@ -1,6 +1,6 @@
 -- `lines::held::span_at` meets its contract: past the end by one law, inside by another. Assumes nothing.
 use borrow.Author.Needs.{needs}
-use Rattle.lines.proofs.SpanLaws.{span-past, span-here}
+use Rattle.lines.proofs.held.SpanLaws.{span-past, span-here}
 use Rattle.lines.proofs.held.span_at.Statement.{statement}
 use Rattle.lines.proofs.held.span_at.Tie as tie
 

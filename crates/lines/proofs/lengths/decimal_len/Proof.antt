@@ -4,7 +4,7 @@ use mathlib.Core.Path.{_≡_}
 use native.Mathlib.Omega.{arith}
 use lib.ListN.{length}
 use Rattle.lines.specs.Decimal.{decimal}
-use Rattle.lines.proofs.DecimalLaws.{decimal-first, decimal-tenth, decimal-20}
+use Rattle.lines.proofs.put.DecimalLaws.{decimal-first, decimal-tenth, decimal-20}
 use Rattle.lines.proofs.lengths.decimal_len.Statement.{statement}
 use Rattle.lines.proofs.lengths.decimal_len.Tie as tie
 

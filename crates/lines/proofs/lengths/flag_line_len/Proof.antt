@@ -1,7 +1,7 @@
 -- `lines::lengths::flag_line_len` meets its contract, by the length of its line. Assumes nothing.
 use native.Mathlib.Omega.{arith}
 use borrow.Author.Needs.{needs}
-use Rattle.lines.proofs.LineLaws.{flag-line-length}
+use Rattle.lines.proofs.lengths.LineLaws.{flag-line-length}
 use Rattle.lines.proofs.lengths.flag_line_len.Statement.{statement}
 use Rattle.lines.proofs.lengths.flag_line_len.Tie as tie
 

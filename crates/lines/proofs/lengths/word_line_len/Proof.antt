@@ -1,8 +1,8 @@
 -- `lines::lengths::word_line_len` meets its contract, by the length of its line and of the word's part. Assumes nothing.
 use native.Mathlib.Omega.{arith}
 use borrow.Author.Needs.{needs}
-use Rattle.lines.proofs.LineLaws.{word-line-length}
-use Rattle.lines.proofs.WordLaws.{part-length}
+use Rattle.lines.proofs.lengths.LineLaws.{word-line-length}
+use Rattle.lines.proofs.words.WordLaws.{part-length}
 use Rattle.lines.proofs.lengths.word_line_len.Statement.{statement}
 use Rattle.lines.proofs.lengths.word_line_len.Tie as tie
 

@@ -1,6 +1,6 @@
 -- `lines::put::put_byte` meets its contract. Past the buffer's end nothing is written (`wrote-out`). Assumes nothing.
 use borrow.Author.Needs.{needs}
-use Rattle.lines.proofs.WroteLaws.{wrote-out}
+use Rattle.lines.proofs.put.WroteLaws.{wrote-out}
 use Rattle.lines.proofs.put.put_byte.Statement.{statement}
 use Rattle.lines.proofs.put.put_byte.Tie as tie
 

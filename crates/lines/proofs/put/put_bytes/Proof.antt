@@ -5,7 +5,7 @@ use native.Mathlib.Omega.{arith}
 use borrow.Author.Tests.{ltb-true, ltb-false}
 use lib.ListN.{length, take}
 use Rattle.lines.specs.Wrote.{Wrote}
-use Rattle.lines.proofs.WroteLaws.{wrote-none, wrote-length, wrote-more, wrote-all, wrote-cut}
+use Rattle.lines.proofs.put.WroteLaws.{wrote-none, wrote-length, wrote-more, wrote-all, wrote-cut}
 use Rattle.lines.proofs.put.put_bytes.Statement.{statement}
 use Rattle.lines.proofs.put.put_bytes.Tie as tie
 

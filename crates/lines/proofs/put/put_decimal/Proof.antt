@@ -6,7 +6,7 @@ use mathlib.Core.List.{append-nil}
 use native.Mathlib.Omega.{arith}
 use borrow.Author.Needs.{needs}
 use lib.ListN.{length-set}
-use Rattle.lines.proofs.DecimalLaws.{SetOut, digits-left, digits-again, digits-done}
+use Rattle.lines.proofs.put.DecimalLaws.{SetOut, digits-left, digits-again, digits-done}
 use Rattle.lines.proofs.put.put_decimal.Statement.{statement}
 use Rattle.lines.proofs.put.put_decimal.Tie as tie
 

@@ -6,8 +6,8 @@ use lib.ListN.{length, take}
 use lib.Seq.{take-all}
 use Rattle.lines.specs.Hex.{hexText}
 use Rattle.lines.specs.Wrote.{Wrote}
-use Rattle.lines.proofs.HexLaws.{hex-more}
-use Rattle.lines.proofs.WroteLaws.{wrote-none, wrote-then, wrote-length}
+use Rattle.lines.proofs.put.HexLaws.{hex-more}
+use Rattle.lines.proofs.put.WroteLaws.{wrote-none, wrote-then, wrote-length}
 use Rattle.lines.proofs.put.put_hex.Statement.{statement}
 use Rattle.lines.proofs.put.put_hex.Tie as tie
 

@@ -1,7 +1,7 @@
 -- `lines::put::put_pair` meets its contract: two writes, one after the other. Assumes nothing.
 use borrow.Author.Needs.{needs}
 use Rattle.lines.specs.Hex.{hexText}
-use Rattle.lines.proofs.WroteLaws.{wrote-then}
+use Rattle.lines.proofs.put.WroteLaws.{wrote-then}
 use Rattle.lines.proofs.put.put_pair.Statement.{statement}
 use Rattle.lines.proofs.put.put_pair.Tie as tie
 

@@ -2,7 +2,7 @@
 use borrow.Author.Tests.{eq-eqb, ne-eqb}
 use borrow.Author.Needs.{needs}
 use Rattle.lines.specs.Field.{hexField, hexKept}
-use Rattle.lines.proofs.FieldLaws.{stays, counts, counts-not}
+use Rattle.lines.proofs.read.FieldLaws.{stays, counts, counts-not}
 use Rattle.lines.proofs.read.hex_field.Statement.{statement}
 use Rattle.lines.proofs.read.hex_field.Tie as tie
 

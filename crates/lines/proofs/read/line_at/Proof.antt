@@ -2,7 +2,7 @@
 use mathlib.Core.Path.{sym, _∙_}
 use borrow.Author.Tests.{not-true, not-false}
 use borrow.Author.Needs.{needs}
-use Rattle.lines.proofs.FieldLaws.{line-inside, line-open, line-other, line-room, line-keyed}
+use Rattle.lines.proofs.read.FieldLaws.{line-inside, line-open, line-other, line-room, line-keyed}
 use Rattle.lines.proofs.read.line_at.Statement.{statement}
 use Rattle.lines.proofs.read.line_at.Tie as tie
 

@@ -1,7 +1,7 @@
 -- `lines::read::number_field` meets its contract: a refused line stays, one that was read is answered by its number. Assumes nothing.
 use borrow.Author.Needs.{needs}
 use Rattle.lines.specs.Field.{numberField}
-use Rattle.lines.proofs.FieldLaws.{stays, answers}
+use Rattle.lines.proofs.read.FieldLaws.{stays, answers}
 use Rattle.lines.proofs.read.number_field.Statement.{statement}
 use Rattle.lines.proofs.read.number_field.Tie as tie
 

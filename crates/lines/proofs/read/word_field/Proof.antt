@@ -1,7 +1,7 @@
 -- `lines::read::word_field` meets its contract: a refused line stays, one that was read is answered by its word's place. Assumes nothing.
 use borrow.Author.Needs.{needs}
 use Rattle.lines.specs.Field.{wordField}
-use Rattle.lines.proofs.FieldLaws.{stays, answers}
+use Rattle.lines.proofs.read.FieldLaws.{stays, answers}
 use Rattle.lines.proofs.read.word_field.Statement.{statement}
 use Rattle.lines.proofs.read.word_field.Tie as tie
 

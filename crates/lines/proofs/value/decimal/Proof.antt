@@ -6,7 +6,7 @@ use native.Mathlib.Omega.{arith}
 use lib.ListN.{length}
 use borrow.Author.Needs.{needs}
 use borrow.Author.Tests.{not-true, not-false}
-use Rattle.lines.proofs.ReadDecimalLaws.{Reading, digit-room, reading-none, reading-next, decimal-spare, decimal-stop, decimal-low, decimal-value}
+use Rattle.lines.proofs.value.DecimalLaws.{Reading, digit-room, reading-none, reading-next, decimal-spare, decimal-stop, decimal-low, decimal-value}
 use Rattle.lines.proofs.value.decimal.Statement.{statement}
 use Rattle.lines.proofs.value.decimal.Tie as tie
 

@@ -4,7 +4,7 @@ use native.Mathlib.Omega.{arith}
 use borrow.Author.Tests.{le-leb, lt-leb}
 use borrow.Author.Needs.{needs}
 use Rattle.lines.specs.ReadDecimal.{isDigit, digitFits}
-use Rattle.lines.proofs.ReadDecimalLaws.{digit-limit}
+use Rattle.lines.proofs.value.DecimalLaws.{digit-limit}
 use Rattle.lines.proofs.value.digit_fits.Statement.{statement}
 use Rattle.lines.proofs.value.digit_fits.Tie as tie
 

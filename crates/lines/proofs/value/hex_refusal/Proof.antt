@@ -2,7 +2,7 @@
 use mathlib.Core.Path.{sym, _∙_}
 use borrow.Author.Tests.{not-true, not-false}
 use borrow.Author.Needs.{needs}
-use Rattle.lines.proofs.ReadHexLaws.{hex-odd, hex-other, hex-long, hex-fits}
+use Rattle.lines.proofs.value.HexLaws.{hex-odd, hex-other, hex-long, hex-fits}
 use Rattle.lines.proofs.value.hex_refusal.Statement.{statement}
 use Rattle.lines.proofs.value.hex_refusal.Tie as tie
 

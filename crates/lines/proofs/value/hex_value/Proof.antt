@@ -1,5 +1,5 @@
 -- `lines::value::hex_value` meets its contract, by the two kinds of digits. Assumes nothing.
-use Rattle.lines.proofs.ReadHexLaws.{hex-decimal, hex-letter}
+use Rattle.lines.proofs.value.HexLaws.{hex-decimal, hex-letter}
 use Rattle.lines.proofs.value.hex_value.Statement.{statement}
 use Rattle.lines.proofs.value.hex_value.Tie as tie
 

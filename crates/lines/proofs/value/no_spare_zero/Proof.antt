@@ -1,6 +1,6 @@
 -- `lines::value::no_spare_zero` meets its contract, by the length: none, one, more. Assumes nothing.
 use borrow.Author.Needs.{needs}
-use Rattle.lines.proofs.ReadDecimalLaws.{spare-none, spare-one, spare-more}
+use Rattle.lines.proofs.value.DecimalLaws.{spare-none, spare-one, spare-more}
 use Rattle.lines.proofs.value.no_spare_zero.Statement.{statement}
 use Rattle.lines.proofs.value.no_spare_zero.Tie as tie
 

@@ -5,7 +5,7 @@ use mathlib.Core.Path.{sym, _∙_}
 use native.Mathlib.Omega.{arith}
 use lib.ListN.{length}
 use borrow.Author.Needs.{needs}
-use Rattle.lines.proofs.ReadWordLaws.{Passed, passed-none, word-inside, word-found, word-next, word-missing}
+use Rattle.lines.proofs.value.WordLaws.{Passed, passed-none, word-inside, word-found, word-next, word-missing}
 use Rattle.lines.proofs.value.word.Statement.{statement}
 use Rattle.lines.proofs.value.word.Tie as tie
 

@@ -5,7 +5,7 @@ use mathlib.Core.Path.{_≡_, refl, sym, _∙_}
 use native.Mathlib.Omega.{arith}
 use lib.ListN.{length, drop}
 use Rattle.lines.specs.Word.{wordText}
-use Rattle.lines.proofs.WordLaws.{word-bar, word-byte, word-here, word-past}
+use Rattle.lines.proofs.words.WordLaws.{word-bar, word-byte, word-here, word-past}
 use Rattle.lines.proofs.words.word_from.Statement.{statement}
 use Rattle.lines.proofs.words.word_from.Tie as tie
 

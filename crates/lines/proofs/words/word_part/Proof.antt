@@ -1,6 +1,6 @@
 -- `lines::words::word_part` meets its contract: the word begins and ends where its two callees say. Assumes nothing.
 use borrow.Author.Needs.{needs}
-use Rattle.lines.proofs.WordLaws.{word-at}
+use Rattle.lines.proofs.words.WordLaws.{word-at}
 use Rattle.lines.proofs.words.word_part.Statement.{statement}
 use Rattle.lines.proofs.words.word_part.Tie as tie
 

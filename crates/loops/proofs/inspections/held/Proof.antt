@@ -5,10 +5,10 @@ use mathlib.Core.Path.{_≡_, ap}
 use native.Mathlib.Omega.{arith}
 use borrow.Author.Needs.{needs}
 use Rattle.tables.specs.declared.rules.TopicAction.the-variants.{Block}
-use Rattle.tables.proofs.PlanLaws.{plan-place}
+use Rattle.tables.proofs.rules.PlanLaws.{plan-place}
 use Rattle.monitor.proofs.PlainLaws.{holding}
 use Rattle.loops.specs.Inspections.{withRule, ruled, rulesIn}
-use Rattle.loops.proofs.LoopLaws.{ruled-none, rule-taken, rule-left, ruled-turn}
+use Rattle.loops.proofs.inspections.LoopLaws.{ruled-none, rule-taken, rule-left, ruled-turn}
 use Rattle.loops.proofs.inspections.held.Statement.{statement}
 use Rattle.loops.proofs.inspections.held.Tie as tie
 

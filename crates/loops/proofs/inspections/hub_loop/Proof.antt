@@ -7,9 +7,9 @@ use native.Mathlib.Omega.{arith}
 use lib.ListN.{length}
 use borrow.Author.Needs.{needs}
 use Rattle.monitor.specs.Inspect.{storedAt}
-use Rattle.monitor.proofs.ApplyLaws.{stored-yes, stored-no, withClients, withBuckets, withTrackers, stored-all}
+use Rattle.monitor.proofs.inspection.ApplyLaws.{stored-yes, stored-no, withClients, withBuckets, withTrackers, stored-all}
 use Rattle.loops.specs.Inspections.{fromAt, stateAfter, allowedAfter}
-use Rattle.loops.proofs.LoopLaws.{next-within, state-turn, allowed-turn, from-turn, too-wide, none-lent, all-run}
+use Rattle.loops.proofs.inspections.LoopLaws.{next-within, state-turn, allowed-turn, from-turn, too-wide, none-lent, all-run}
 use Rattle.loops.proofs.inspections.hub_loop.Statement.{statement}
 use Rattle.loops.proofs.inspections.hub_loop.Tie as tie
 

@@ -1,6 +1,6 @@
 -- `inspections::readied` meets its contract: a fresh monitor gets the rules. Assumes nothing.
 use borrow.Author.Needs.{needs}
-use Rattle.loops.proofs.LoopLaws.{held-start}
+use Rattle.loops.proofs.inspections.LoopLaws.{held-start}
 use Rattle.loops.proofs.inspections.readied.Statement.{statement}
 use Rattle.loops.proofs.inspections.readied.Tie as tie
 

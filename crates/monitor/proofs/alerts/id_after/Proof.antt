@@ -1,7 +1,7 @@
 -- `alerts::id_after` meets its contract: at the largest id, and below it. Assumes nothing.
 use native.Mathlib.Omega.{arith}
 use borrow.Author.Needs.{needs}
-use Rattle.monitor.proofs.AlertLaws.{id-on}
+use Rattle.monitor.proofs.alerts.AlertLaws.{id-on}
 use Rattle.monitor.proofs.alerts.id_after.Statement.{statement}
 use Rattle.monitor.proofs.alerts.id_after.Tie as tie
 

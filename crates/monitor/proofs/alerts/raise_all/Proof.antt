@@ -1,6 +1,6 @@
 -- `alerts::raise_all` meets its contract: five lists of one kind or none, one after the other. Assumes nothing.
 use borrow.Author.Needs.{needs}
-use Rattle.monitor.proofs.AlertLaws.{raised-five}
+use Rattle.monitor.proofs.alerts.AlertLaws.{raised-five}
 use Rattle.monitor.proofs.alerts.raise_all.Statement.{statement}
 use Rattle.monitor.proofs.alerts.raise_all.Tie as tie
 

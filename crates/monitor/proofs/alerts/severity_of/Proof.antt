@@ -1,7 +1,7 @@
 -- `alerts::severity_of` meets its contract: the kinds as its `match` tells them apart. Assumes nothing.
 use mathlib.Core.Logic.{inl, inr}
 use native.Mathlib.Omega.{arith}
-use Rattle.monitor.proofs.AlertLaws.{high, low-4, low-7, medium}
+use Rattle.monitor.proofs.alerts.AlertLaws.{high, low-4, low-7, medium}
 use Rattle.monitor.proofs.alerts.severity_of.Statement.{statement}
 use Rattle.monitor.proofs.alerts.severity_of.Tie as tie
 

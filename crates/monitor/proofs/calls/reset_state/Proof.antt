@@ -2,7 +2,7 @@
 use mathlib.Core.Path.{refl, _∙_}
 use borrow.Author.Needs.{needs}
 use Rattle.monitor.specs.Calls.{resetState}
-use Rattle.monitor.proofs.EndedLaws.{ended-10, ended-done}
+use Rattle.monitor.proofs.state.EndedLaws.{ended-10, ended-done}
 use Rattle.monitor.proofs.calls.reset_state.Statement.{statement}
 use Rattle.monitor.proofs.calls.reset_state.Tie as tie
 

@@ -2,7 +2,7 @@
 use mathlib.Core.Path.{refl, _∙_}
 use borrow.Author.Needs.{needs}
 use Rattle.monitor.specs.Calls.{setStorm}
-use Rattle.monitor.proofs.EndedLaws.{ended-10, ended-done}
+use Rattle.monitor.proofs.state.EndedLaws.{ended-10, ended-done}
 use Rattle.monitor.proofs.calls.set_connect_storm_params.Statement.{statement}
 use Rattle.monitor.proofs.calls.set_connect_storm_params.Tie as tie
 

@@ -1,6 +1,6 @@
 -- `gate::gate_after` meets its contract: each return by the tests that lead to it. Assumes nothing.
 use borrow.Author.Needs.{needs}
-use Rattle.monitor.proofs.GateLaws.{after-reserved, after-blocked, after-passed}
+use Rattle.monitor.proofs.gate.GateLaws.{after-reserved, after-blocked, after-passed}
 use Rattle.monitor.proofs.gate.gate_after.Statement.{statement}
 use Rattle.monitor.proofs.gate.gate_after.Tie as tie
 

@@ -3,7 +3,7 @@ use mathlib.Core.Path.{sym, _∙_}
 use borrow.Author.Tests.{not-true, not-false}
 use borrow.Author.Needs.{needs}
 use Rattle.monitor.specs.Gate.{gateOf}
-use Rattle.monitor.proofs.GateLaws.{none-empty, none-not}
+use Rattle.monitor.proofs.gate.GateLaws.{none-empty, none-not}
 use Rattle.monitor.proofs.gate.gate_for.Statement.{statement}
 use Rattle.monitor.proofs.gate.gate_for.Tie as tie
 

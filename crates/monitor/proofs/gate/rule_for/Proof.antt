@@ -8,8 +8,8 @@ use lib.ListN.{length, take, drop}
 use Rattle.topics.specs.Matching.{portMatches}
 use Rattle.tables.specs.Rules.{firstRule}
 use Rattle.tables.specs.Scan.{find}
-use Rattle.tables.proofs.RuleLaws.{passing, seek-here, seek-next, seek-done}
-use Rattle.monitor.proofs.GateLaws.{ruled-none, ruled-here}
+use Rattle.tables.proofs.rules.RuleLaws.{passing, seek-here, seek-next, seek-done}
+use Rattle.monitor.proofs.gate.GateLaws.{ruled-none, ruled-here}
 use Rattle.monitor.proofs.gate.rule_for.Statement.{statement}
 use Rattle.monitor.proofs.gate.rule_for.Tie as tie
 

@@ -4,7 +4,7 @@ use mathlib.Core.Path.{_≡_, sym}
 use lib.Seq.{length-take-le}
 use Rattle.topics.specs.Matching.{portMatches}
 use Rattle.monitor.specs.Inspect.{storedAt}
-use Rattle.monitor.proofs.ApplyLaws.{stored-yes, stored-no, withClients, withBuckets, withTrackers, stored-all, not-formed, short-topic, short-payload, inspected}
+use Rattle.monitor.proofs.inspection.ApplyLaws.{stored-yes, stored-no, withClients, withBuckets, withTrackers, stored-all, not-formed, short-topic, short-payload, inspected}
 use borrow.Author.Needs.{needs}
 use Rattle.monitor.proofs.inspection.inspect.Statement.{statement}
 use Rattle.monitor.proofs.inspection.inspect.Tie as tie

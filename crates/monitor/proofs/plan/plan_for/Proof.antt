@@ -1,7 +1,7 @@
 -- `plan::plan_for` meets its contract: it is what its calls on parts of the state hand back, together (PlanLaws). Assumes nothing.
 use borrow.Author.Needs.{needs}
 use Rattle.topics.specs.Matching.{portMatches}
-use Rattle.monitor.proofs.PlanLaws.{composed}
+use Rattle.monitor.proofs.plan.PlanLaws.{composed}
 use Rattle.monitor.proofs.plan.plan_for.Statement.{statement}
 use Rattle.monitor.proofs.plan.plan_for.Tie as tie
 

@@ -1,7 +1,7 @@
 -- `plan::plan_from` meets its contract: the payload hash is missed nowhere where it was not made (PlanLaws). Assumes nothing.
 use borrow.Author.Needs.{needs}
 use Rattle.monitor.specs.Plan.{denialOf}
-use Rattle.monitor.proofs.PlanLaws.{planned}
+use Rattle.monitor.proofs.plan.PlanLaws.{planned}
 use Rattle.monitor.proofs.plan.plan_from.Statement.{statement}
 use Rattle.monitor.proofs.plan.plan_from.Tie as tie
 

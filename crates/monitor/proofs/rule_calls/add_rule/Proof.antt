@@ -2,9 +2,9 @@
 use mathlib.Core.Path.{_∙_}
 use borrow.Author.Needs.{needs}
 use Rattle.monitor.specs.Calls.{addRule}
-use Rattle.tables.proofs.PlanLaws.{plan-place}
-use Rattle.monitor.proofs.AddLaws.{add-refused, add-stored}
-use Rattle.monitor.proofs.EndedLaws.{ended-10}
+use Rattle.tables.proofs.rules.PlanLaws.{plan-place}
+use Rattle.monitor.proofs.rule_calls.AddLaws.{add-refused, add-stored}
+use Rattle.monitor.proofs.state.EndedLaws.{ended-10}
 use Rattle.monitor.proofs.rule_calls.add_rule.Statement.{statement}
 use Rattle.monitor.proofs.rule_calls.add_rule.Tie as tie
 

@@ -2,7 +2,7 @@
 use mathlib.Core.Path.{refl, _∙_}
 use borrow.Author.Needs.{needs}
 use Rattle.monitor.specs.Calls.{clearRules}
-use Rattle.monitor.proofs.EndedLaws.{ended-10, ended-done}
+use Rattle.monitor.proofs.state.EndedLaws.{ended-10, ended-done}
 use Rattle.monitor.proofs.rule_calls.clear_rules.Statement.{statement}
 use Rattle.monitor.proofs.rule_calls.clear_rules.Tie as tie
 

@@ -3,7 +3,7 @@ use mathlib.Core.Path.{refl, _∙_}
 use borrow.Author.Tests.{lt-ltb, le-ltb}
 use borrow.Author.Needs.{needs}
 use Rattle.monitor.specs.Calls.{removeRule}
-use Rattle.monitor.proofs.EndedLaws.{at-most-32, ended-10, ended-by, ended-done}
+use Rattle.monitor.proofs.state.EndedLaws.{at-most-32, ended-10, ended-by, ended-done}
 use Rattle.monitor.proofs.rule_calls.remove_rule.Statement.{statement}
 use Rattle.monitor.proofs.rule_calls.remove_rule.Tie as tie
 

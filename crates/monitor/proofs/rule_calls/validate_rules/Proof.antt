@@ -1,7 +1,7 @@
 -- `rule_calls::validate_rules` meets its contract: refused by 10, or the shadow count. Assumes nothing.
 use borrow.Author.Needs.{needs}
 use Rattle.monitor.specs.Calls.{validateRules}
-use Rattle.monitor.proofs.EndedLaws.{unformed, well}
+use Rattle.monitor.proofs.state.EndedLaws.{unformed, well}
 use Rattle.monitor.proofs.rule_calls.validate_rules.Statement.{statement}
 use Rattle.monitor.proofs.rule_calls.validate_rules.Tie as tie
 

@@ -8,7 +8,7 @@ use lib.ListN.{length, drop}
 use lib.Seq.{paste, paste-zero}
 use Rattle.tables.specs.Rules.{emptyRule, noRule}
 use Rattle.monitor.specs.Calls.{without}
-use Rattle.monitor.proofs.MoveLaws.{moved-more, moved-done}
+use Rattle.monitor.proofs.rule_calls.MoveLaws.{moved-more, moved-done}
 use Rattle.monitor.proofs.rule_calls.without.Statement.{statement}
 use Rattle.monitor.proofs.rule_calls.without.Tie as tie
 

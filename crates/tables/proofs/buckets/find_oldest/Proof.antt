@@ -6,7 +6,7 @@ use lib.ListN.{length}
 use borrow.Author.Needs.{needs}
 use Rattle.tables.specs.Buckets.{noBucket}
 use Rattle.tables.proofs.ScanLaws.{LeastFrom, least-last, least-front, least-stays, least-done}
-use Rattle.tables.proofs.PlaceLaws.{timeOf}
+use Rattle.tables.proofs.buckets.PlaceLaws.{timeOf}
 use Rattle.tables.proofs.buckets.find_oldest.Statement.{statement}
 use Rattle.tables.proofs.buckets.find_oldest.Tie as tie
 

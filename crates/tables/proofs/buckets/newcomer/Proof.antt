@@ -3,7 +3,7 @@ use mathlib.Core.Path.{_≡_, sym, _∙_}
 use native.Mathlib.Omega.{arith}
 use lib.ListN.{length}
 use borrow.Author.Needs.{needs}
-use Rattle.tables.proofs.PlaceLaws.{oldest-lt, at-free, at-expired, at-least}
+use Rattle.tables.proofs.buckets.PlaceLaws.{oldest-lt, at-free, at-expired, at-least}
 use Rattle.tables.proofs.buckets.newcomer.Statement.{statement}
 use Rattle.tables.proofs.buckets.newcomer.Tie as tie
 

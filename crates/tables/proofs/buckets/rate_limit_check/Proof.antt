@@ -7,7 +7,7 @@ use native.Mathlib.Omega.{arith}
 use lib.ListN.{length, drop}
 use Rattle.tables.specs.Scan.{find}
 use Rattle.tables.specs.Buckets.{noBucket, holdsBucket}
-use Rattle.tables.proofs.DecideLaws.{held, new}
+use Rattle.tables.proofs.buckets.DecideLaws.{held, new}
 use Rattle.tables.proofs.ScanLaws.{find-here, find-next, find-done}
 use Rattle.tables.proofs.buckets.rate_limit_check.Statement.{statement}
 use Rattle.tables.proofs.buckets.rate_limit_check.Tie as tie

@@ -2,7 +2,7 @@
 use mathlib.Core.Path.{_∙_}
 use native.Mathlib.Omega.{arith}
 use borrow.Author.Needs.{needs}
-use Rattle.tables.proofs.RefillLaws.{refilled-none, refilled-more}
+use Rattle.tables.proofs.buckets.RefillLaws.{refilled-none, refilled-more}
 use Rattle.tables.proofs.buckets.refilled.Statement.{statement}
 use Rattle.tables.proofs.buckets.refilled.Tie as tie
 

@@ -4,7 +4,7 @@ use lib.ListN.{length}
 use borrow.Author.Needs.{needs}
 use borrow.Author.Tests.{eq-eqb, ne-eqb}
 use Rattle.tables.specs.Identity.{isRemoved}
-use Rattle.tables.proofs.PrefixLaws.{same-whole}
+use Rattle.tables.proofs.identity.PrefixLaws.{same-whole}
 use Rattle.tables.proofs.identity.is_removed.Statement.{statement}
 use Rattle.tables.proofs.identity.is_removed.Tie as tie
 

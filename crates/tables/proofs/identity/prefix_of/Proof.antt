@@ -6,7 +6,7 @@ use Prim.Native.Nat.{_≤_, _-_}
 use native.Mathlib.Omega.{arith}
 use lib.ListN.{take, replicate}
 use borrow.Author.Needs.{needs}
-use Rattle.tables.proofs.PrefixLaws.{padded-more, prefix-done}
+use Rattle.tables.proofs.identity.PrefixLaws.{padded-more, prefix-done}
 use Rattle.tables.proofs.identity.prefix_of.Statement.{statement}
 use Rattle.tables.proofs.identity.prefix_of.Tie as tie
 

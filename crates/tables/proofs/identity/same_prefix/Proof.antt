@@ -4,7 +4,7 @@ use native.Mathlib.Omega.{arith}
 use lib.ListN.{length}
 use lib.Seq.{length-take-le}
 use borrow.Author.Needs.{needs}
-use Rattle.tables.proofs.PrefixLaws.{same-cut}
+use Rattle.tables.proofs.identity.PrefixLaws.{same-cut}
 use Rattle.tables.proofs.identity.same_prefix.Statement.{statement}
 use Rattle.tables.proofs.identity.same_prefix.Tie as tie
 

@@ -1,5 +1,5 @@
 -- `rules::counts` meets its contract: no place from 32 on counts. Assumes nothing.
-use Rattle.tables.proofs.PlanLaws.{from-32, below-32}
+use Rattle.tables.proofs.rules.PlanLaws.{from-32, below-32}
 use Rattle.tables.proofs.rules.counts.Statement.{statement}
 use Rattle.tables.proofs.rules.counts.Tie as tie
 

@@ -8,7 +8,7 @@ use lib.ListN.{length, take, drop}
 use Rattle.slices.specs.Bytes.{same}
 use Rattle.tables.specs.Rules.{equalRule}
 use Rattle.tables.specs.Scan.{find}
-use Rattle.tables.proofs.RuleLaws.{passing, seek-here, seek-next, seek-done}
+use Rattle.tables.proofs.rules.RuleLaws.{passing, seek-here, seek-next, seek-done}
 use Rattle.tables.proofs.rules.equal_rule.Statement.{statement}
 use Rattle.tables.proofs.rules.equal_rule.Tie as tie
 

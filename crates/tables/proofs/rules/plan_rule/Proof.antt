@@ -2,8 +2,8 @@
 use mathlib.Core.Path.{sym, _∙_}
 use Prim.Native.Nat.{_<_}
 use borrow.Author.Needs.{needs}
-use Rattle.topics.proofs.PatternLaws.{accepted-length}
-use Rattle.tables.proofs.PlanLaws.{counts-below, plan-own, plan-held, plan-full, plan-new}
+use Rattle.topics.proofs.patterns.PatternLaws.{accepted-length}
+use Rattle.tables.proofs.rules.PlanLaws.{counts-below, plan-own, plan-held, plan-full, plan-new}
 use Rattle.tables.proofs.rules.plan_rule.Statement.{statement}
 use Rattle.tables.proofs.rules.plan_rule.Tie as tie
 

@@ -4,7 +4,7 @@ use native.Mathlib.Omega.{arith}
 use lib.ListN.{length}
 use lib.Seq.{length-take-le}
 use borrow.Author.Needs.{needs}
-use Rattle.tables.proofs.RuleLaws.{fine-dead, fine-long, fine-asked}
+use Rattle.tables.proofs.rules.RuleLaws.{fine-dead, fine-long, fine-asked}
 use Rattle.tables.proofs.rules.rule_fine.Statement.{statement}
 use Rattle.tables.proofs.rules.rule_fine.Tie as tie
 

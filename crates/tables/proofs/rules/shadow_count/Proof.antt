@@ -8,7 +8,7 @@ use native.Mathlib.Omega.{arith}
 use borrow.Author.Needs.{needs}
 use lib.ListN.{length, take, drop, getD}
 use Rattle.tables.specs.Rules.{shadowedAfter, shadowCount, noRule}
-use Rattle.tables.proofs.ShadowLaws.{hidden, hidden-here, hidden-next, hidden-end, turn-hidden, turn-plain, turn-end}
+use Rattle.tables.proofs.rules.ShadowLaws.{hidden, hidden-here, hidden-next, hidden-end, turn-hidden, turn-plain, turn-end}
 use Rattle.tables.proofs.rules.shadow_count.Statement.{statement}
 use Rattle.tables.proofs.rules.shadow_count.Tie as tie
 

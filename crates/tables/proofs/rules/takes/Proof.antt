@@ -5,7 +5,7 @@ use borrow.Author.Needs.{needs}
 use lib.ListN.{length}
 use lib.Seq.{length-take-le}
 use Rattle.laws.proofs.Tests.{guard-off, guard-on}
-use Rattle.tables.proofs.RuleLaws.{lent}
+use Rattle.tables.proofs.rules.RuleLaws.{lent}
 use Rattle.tables.proofs.rules.takes.Statement.{statement}
 use Rattle.tables.proofs.rules.takes.Tie as tie
 

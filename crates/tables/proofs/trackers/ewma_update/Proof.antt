@@ -7,7 +7,7 @@ use native.Mathlib.Omega.{arith}
 use lib.ListN.{length, drop}
 use Rattle.tables.specs.Scan.{find}
 use Rattle.tables.specs.Trackers.{holdsTracker, noTracker}
-use Rattle.tables.proofs.TrackerLaws.{feed-held, feed-new}
+use Rattle.tables.proofs.trackers.TrackerLaws.{feed-held, feed-new}
 use Rattle.tables.proofs.ScanLaws.{find-here, find-next, find-done}
 use Rattle.tables.proofs.trackers.ewma_update.Statement.{statement}
 use Rattle.tables.proofs.trackers.ewma_update.Tie as tie

@@ -8,7 +8,7 @@ use lib.ListN.{length, drop}
 use Rattle.tables.specs.Scan.{find}
 use Rattle.tables.specs.Trackers.{noTracker}
 use Rattle.tables.proofs.ScanLaws.{find-here, find-next, find-done}
-use Rattle.tables.proofs.TrackerLaws.{isFree}
+use Rattle.tables.proofs.trackers.TrackerLaws.{isFree}
 use Rattle.tables.proofs.trackers.find_free.Statement.{statement}
 use Rattle.tables.proofs.trackers.find_free.Tie as tie
 

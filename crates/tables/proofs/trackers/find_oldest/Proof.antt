@@ -6,7 +6,7 @@ use lib.ListN.{length}
 use borrow.Author.Needs.{needs}
 use Rattle.tables.specs.Trackers.{noTracker}
 use Rattle.tables.proofs.ScanLaws.{LeastFrom, least-last, least-front, least-stays, least-done}
-use Rattle.tables.proofs.TrackerLaws.{lastUpdate}
+use Rattle.tables.proofs.trackers.TrackerLaws.{lastUpdate}
 use Rattle.tables.proofs.trackers.find_oldest.Statement.{statement}
 use Rattle.tables.proofs.trackers.find_oldest.Tie as tie
 

@@ -8,7 +8,7 @@ use lib.ListN.{length, drop}
 use Rattle.tables.specs.Scan.{find}
 use Rattle.tables.specs.Trackers.{removedTracker, noTracker}
 use Rattle.tables.proofs.ScanLaws.{find-here, find-next, find-done}
-use Rattle.tables.proofs.TrackerLaws.{isGone}
+use Rattle.tables.proofs.trackers.TrackerLaws.{isGone}
 use Rattle.tables.proofs.trackers.removed_tracker.Statement.{statement}
 use Rattle.tables.proofs.trackers.removed_tracker.Tie as tie
 

@@ -6,7 +6,7 @@ use Prim.Native.Nat.{_+_, _-_, _≤_}
 use native.Mathlib.Omega.{arith}
 use lib.ListN.{length, take}
 use Rattle.tables.specs.Windows.{countFrom}
-use Rattle.tables.proofs.WindowLaws.{count-le, count-on, count-all}
+use Rattle.tables.proofs.windows.WindowLaws.{count-le, count-on, count-all}
 use Rattle.tables.proofs.windows.count_in_window.Statement.{statement}
 use Rattle.tables.proofs.windows.count_in_window.Tie as tie
 

@@ -8,7 +8,7 @@ use lib.ListN.{length, drop}
 use Rattle.tables.specs.Scan.{find}
 use Rattle.tables.specs.Windows.{noWindow}
 use Rattle.tables.proofs.ScanLaws.{find-here, find-next, find-done}
-use Rattle.tables.proofs.WindowLaws.{isFree}
+use Rattle.tables.proofs.windows.WindowLaws.{isFree}
 use Rattle.tables.proofs.windows.find_free.Statement.{statement}
 use Rattle.tables.proofs.windows.find_free.Tie as tie
 

@@ -6,7 +6,7 @@ use lib.ListN.{length}
 use borrow.Author.Needs.{needs}
 use Rattle.tables.specs.Windows.{noWindow}
 use Rattle.tables.proofs.ScanLaws.{LeastFrom, least-last, least-front, least-stays, least-done}
-use Rattle.tables.proofs.WindowLaws.{lastSeen}
+use Rattle.tables.proofs.windows.WindowLaws.{lastSeen}
 use Rattle.tables.proofs.windows.find_oldest.Statement.{statement}
 use Rattle.tables.proofs.windows.find_oldest.Tie as tie
 

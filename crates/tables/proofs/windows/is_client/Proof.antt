@@ -1,5 +1,5 @@
 -- `windows::is_client` meets its contract: each return has what the tests before it showed. Assumes nothing.
-use Rattle.tables.proofs.WindowLaws.{client-free, client-other, client-last}
+use Rattle.tables.proofs.windows.WindowLaws.{client-free, client-other, client-last}
 use Rattle.tables.proofs.windows.is_client.Statement.{statement}
 use Rattle.tables.proofs.windows.is_client.Tie as tie
 

@@ -7,7 +7,7 @@ use native.Mathlib.Omega.{arith}
 use lib.ListN.{length, drop}
 use Rattle.tables.specs.Scan.{find}
 use Rattle.tables.specs.Windows.{holdsClient, noWindow}
-use Rattle.tables.proofs.WindowLaws.{connect-held, connect-new}
+use Rattle.tables.proofs.windows.WindowLaws.{connect-held, connect-new}
 use Rattle.tables.proofs.ScanLaws.{find-here, find-next, find-done}
 use Rattle.tables.proofs.windows.record_connect.Statement.{statement}
 use Rattle.tables.proofs.windows.record_connect.Tie as tie

@@ -1,7 +1,7 @@
 -- `hashes::client_hashes` meets its contract, for an empty client id and for any other. Assumes nothing.
 use mathlib.Core.Path.{sym}
 use borrow.Author.Needs.{needs}
-use Rattle.topics.proofs.HashLaws.{client-none, client-some}
+use Rattle.topics.proofs.hashes.HashLaws.{client-none, client-some}
 use Rattle.topics.proofs.hashes.client_hashes.Statement.{statement}
 use Rattle.topics.proofs.hashes.client_hashes.Tie as tie
 

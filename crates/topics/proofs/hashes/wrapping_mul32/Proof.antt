@@ -1,7 +1,7 @@
 -- `hashes::wrapping_mul32` meets its contract: the product of two words fits 64 bits (`below`), so nothing is lost before the wrap that is asked for.
 -- Assumes nothing.
 use borrow.Author.Needs.{needs}
-use Rattle.topics.proofs.BitLaws.{below}
+use Rattle.topics.proofs.payload.BitLaws.{below}
 use Rattle.topics.proofs.hashes.wrapping_mul32.Statement.{statement}
 use Rattle.topics.proofs.hashes.wrapping_mul32.Tie as tie
 

@@ -1,7 +1,7 @@
 -- `matching::standard_matches` meets its contract: its two tests are the domain, and inside it the byte matcher is the standard's rule. Assumes nothing.
 use mathlib.Core.Path.{sym, _∙_}
 use borrow.Author.Needs.{needs}
-use Rattle.topics.proofs.StandardLaws.{outside-pattern, outside-name, inside}
+use Rattle.topics.proofs.matching.StandardLaws.{outside-pattern, outside-name, inside}
 use Rattle.topics.proofs.matching.standard_matches.Statement.{statement}
 use Rattle.topics.proofs.matching.standard_matches.Tie as tie
 

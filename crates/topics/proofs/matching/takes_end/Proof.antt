@@ -3,7 +3,7 @@ use mathlib.Core.Logic.{⊎-elim}
 use mathlib.Core.Path.{_∙_}
 use native.Mathlib.Omega.{arith}
 use borrow.Author.Needs.{needs}
-use Rattle.topics.proofs.MatchLaws.{end-end, end-plus, end-other, end-port}
+use Rattle.topics.proofs.matching.MatchLaws.{end-end, end-plus, end-other, end-port}
 use Rattle.topics.proofs.matching.takes_end.Statement.{statement}
 use Rattle.topics.proofs.matching.takes_end.Tie as tie
 

@@ -1,7 +1,7 @@
 -- `matching::takes_none` meets its contract: each way out is one law on the pattern's next one or two bytes. Assumes nothing.
 use native.Mathlib.Omega.{arith}
 use borrow.Author.Needs.{needs}
-use Rattle.topics.proofs.MatchLaws.{none-end, none-hash, none-other, none-last, none-next}
+use Rattle.topics.proofs.matching.MatchLaws.{none-end, none-hash, none-other, none-last, none-next}
 use Rattle.topics.proofs.matching.takes_none.Statement.{statement}
 use Rattle.topics.proofs.matching.takes_none.Tie as tie
 

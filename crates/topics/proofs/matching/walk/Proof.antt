@@ -6,7 +6,7 @@ use native.Mathlib.Omega.{arith}
 use borrow.Author.Needs.{needs}
 use lib.ListN.{length, drop}
 use Rattle.topics.specs.Matching.{matchBytes}
-use Rattle.topics.proofs.MatchLaws.{slash-found, match-end, match-over, match-hash, match-plus, match-not, match-byte}
+use Rattle.topics.proofs.matching.MatchLaws.{slash-found, match-end, match-over, match-hash, match-plus, match-not, match-byte}
 use Rattle.topics.proofs.matching.walk.Statement.{statement}
 use Rattle.topics.proofs.matching.walk.Tie as tie
 

@@ -6,7 +6,7 @@ use native.Mathlib.Omega.{arith}
 use borrow.Author.Needs.{needs}
 use lib.ListN.{length, drop}
 use Rattle.topics.specs.Names.{badPublish}
-use Rattle.topics.proofs.ScanLaws.{bad-at, bad-end}
+use Rattle.topics.proofs.names.NameLaws.{bad-at, bad-end}
 use Rattle.topics.proofs.names.contains_invalid_publish_char.Statement.{statement}
 use Rattle.topics.proofs.names.contains_invalid_publish_char.Tie as tie
 

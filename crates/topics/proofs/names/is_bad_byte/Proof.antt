@@ -1,6 +1,6 @@
 -- `names::is_bad_byte` meets its contract: each return by the tests that lead to it. Assumes nothing.
 use borrow.Author.Tests.{eq-eqb, ne-eqb}
-use Rattle.topics.proofs.ScanLaws.{bad-one}
+use Rattle.topics.proofs.names.NameLaws.{bad-one}
 use Rattle.topics.proofs.names.is_bad_byte.Statement.{statement}
 use Rattle.topics.proofs.names.is_bad_byte.Tie as tie
 

@@ -1,7 +1,7 @@
 -- `patterns::level_ends` meets its contract: past the end nothing is left, and before it the byte there says. Assumes nothing.
 use borrow.Author.Needs.{needs}
 use lib.ListN.{drop-of-length-le}
-use Rattle.topics.proofs.PlacedLaws.{levels-end}
+use Rattle.topics.proofs.patterns.PlacedLaws.{levels-end}
 use Rattle.topics.proofs.patterns.level_ends.Statement.{statement}
 use Rattle.topics.proofs.patterns.level_ends.Tie as tie
 

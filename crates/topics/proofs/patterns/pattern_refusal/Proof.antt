@@ -3,7 +3,7 @@ use mathlib.Core.Path.{sym, _∙_}
 use native.Mathlib.Omega.{arith}
 use borrow.Author.Tests.{not-true, not-false}
 use borrow.Author.Needs.{needs}
-use Rattle.topics.proofs.PatternLaws.{refused-empty, refused-long, refused-zero, refused-plus, refused-valid}
+use Rattle.topics.proofs.patterns.PatternLaws.{refused-empty, refused-long, refused-zero, refused-plus, refused-valid}
 use Rattle.topics.proofs.patterns.pattern_refusal.Statement.{statement}
 use Rattle.topics.proofs.patterns.pattern_refusal.Tie as tie
 

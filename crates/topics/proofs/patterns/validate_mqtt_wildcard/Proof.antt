@@ -7,8 +7,8 @@ use borrow.Author.Needs.{needs}
 use borrow.Author.Tests.{not-true, not-false}
 use lib.ListN.{length, drop}
 use Rattle.topics.specs.Patterns.{validWildcards}
-use Rattle.topics.proofs.Placed.{placed}
-use Rattle.topics.proofs.PlacedLaws.{valid-none, valid-some, placed-end, hash-fresh, hash-mid, plus-mid, plus-on, placed-on}
+use Rattle.topics.proofs.patterns.Placed.{placed}
+use Rattle.topics.proofs.patterns.PlacedLaws.{valid-none, valid-some, placed-end, hash-fresh, hash-mid, plus-mid, plus-on, placed-on}
 use Rattle.topics.proofs.patterns.validate_mqtt_wildcard.Statement.{statement}
 use Rattle.topics.proofs.patterns.validate_mqtt_wildcard.Tie as tie
 

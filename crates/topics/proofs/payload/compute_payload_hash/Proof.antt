@@ -1,7 +1,7 @@
 -- `payload::compute_payload_hash` meets its contract, for no data and for any other. Assumes nothing.
 use mathlib.Core.Path.{sym}
 use borrow.Author.Needs.{needs}
-use Rattle.topics.proofs.HashLaws.{payload-none, payload-some}
+use Rattle.topics.proofs.hashes.HashLaws.{payload-none, payload-some}
 use Rattle.topics.proofs.payload.compute_payload_hash.Statement.{statement}
 use Rattle.topics.proofs.payload.compute_payload_hash.Tie as tie
 

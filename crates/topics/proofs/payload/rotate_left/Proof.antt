@@ -1,6 +1,6 @@
 -- `payload::rotate_left` meets its contract: the two shifts share no bit (`turned`). Assumes nothing.
 use borrow.Author.Needs.{needs}
-use Rattle.topics.proofs.BitLaws.{turned}
+use Rattle.topics.proofs.payload.BitLaws.{turned}
 use Rattle.topics.proofs.payload.rotate_left.Statement.{statement}
 use Rattle.topics.proofs.payload.rotate_left.Tie as tie
 

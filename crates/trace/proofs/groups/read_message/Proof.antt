@@ -6,10 +6,9 @@ use mathlib.Core.List.{List}
 use native.Mathlib.Omega.{arith}
 use lib.ListN.{length}
 use borrow.Author.Tests.{eq-eqb, ne-eqb}
-use Rattle.trace.specs.Groups.{MessageIn, messageAt, message1, message2, message3, message4, message5, message6, message7, topicLine, payloadLine}
-use Rattle.trace.specs.Groups.{topicKept, topic1, topic2, topic3, topic4, payloadKept, payload1, payload2, payload3, payload4, payload5, payload6}
+use Rattle.trace.specs.Groups.{MessageIn, messageAt, message1, message2, message3, message4, message5, message6, message7, topicLine, payloadLine, topicKept, topic1, topic2, topic3, topic4, payloadKept, payload1, payload2, payload3, payload4, payload5, payload6}
 use Rattle.trace.specs.declared.groups.MessageLines.{MessageLines}
-use Rattle.trace.proofs.GroupLaws.{message-within}
+use Rattle.trace.proofs.groups.GroupLaws.{message-within}
 use Rattle.trace.proofs.LineBounds.{number-fits, hex-fits}
 use borrow.Author.Needs.{needs}
 use Rattle.trace.proofs.groups.read_message.Statement.{statement}

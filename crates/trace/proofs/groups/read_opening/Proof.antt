@@ -2,7 +2,7 @@
 use mathlib.Core.Path.{_≡_}
 use borrow.Author.Tests.{eq-eqb, ne-eqb}
 use Rattle.trace.specs.Groups.{openingOf, opening1, opening2}
-use Rattle.trace.proofs.GroupLaws.{opening-within}
+use Rattle.trace.proofs.groups.GroupLaws.{opening-within}
 use borrow.Author.Needs.{needs}
 use Rattle.trace.proofs.groups.read_opening.Statement.{statement}
 use Rattle.trace.proofs.groups.read_opening.Tie as tie

@@ -6,7 +6,7 @@ use borrow.Author.Tests.{eq-eqb, ne-eqb}
 use Rattle.slices.specs.Bytes.{bytes}
 use Rattle.lines.specs.Field.{hexField}
 use Rattle.trace.specs.Groups.{ruleAt, rule1, rule2, rule3, rule4}
-use Rattle.trace.proofs.GroupLaws.{rule-within}
+use Rattle.trace.proofs.groups.GroupLaws.{rule-within}
 use Rattle.trace.proofs.LineBounds.{number-fits}
 use borrow.Author.Needs.{needs}
 use Rattle.trace.proofs.groups.read_rule.Statement.{statement}

@@ -4,7 +4,7 @@ use mathlib.Core.Path.{_≡_}
 use native.Mathlib.Omega.{arith}
 use lib.ListN.{length}
 use Rattle.trace.specs.Record.{alertText}
-use Rattle.trace.proofs.RecordLaws.{Typed, alert-sum}
+use Rattle.trace.proofs.record.RecordLaws.{Typed, alert-sum}
 use borrow.Author.Needs.{needs}
 use Rattle.trace.proofs.record.alert_len.Statement.{statement}
 use Rattle.trace.proofs.record.alert_len.Tie as tie

@@ -6,7 +6,7 @@ use mathlib.Core.Path.{_≡_}
 use native.Mathlib.Omega.{arith}
 use lib.ListN.{length, take, length-append}
 use Rattle.trace.specs.Record.{alertsText}
-use Rattle.trace.proofs.RecordLaws.{alerts-more, alerts-all, mapped-long}
+use Rattle.trace.proofs.record.RecordLaws.{alerts-more, alerts-all, mapped-long}
 use Rattle.trace.proofs.record.alerts_len.Statement.{statement}
 use Rattle.trace.proofs.record.alerts_len.Tie as tie
 

@@ -4,7 +4,7 @@ use mathlib.Core.Path.{_≡_}
 use native.Mathlib.Omega.{arith}
 use lib.ListN.{length}
 use Rattle.trace.specs.Record.{closingText}
-use Rattle.trace.proofs.RecordLaws.{closing-sum}
+use Rattle.trace.proofs.record.RecordLaws.{closing-sum}
 use borrow.Author.Needs.{needs}
 use Rattle.trace.proofs.record.closing_len.Statement.{statement}
 use Rattle.trace.proofs.record.closing_len.Tie as tie

@@ -1,5 +1,5 @@
 -- `trace::record::put_alert` meets its contract: four lines, one after the other. Assumes nothing.
-use Rattle.lines.proofs.WroteLaws.{wrote-then}
+use Rattle.lines.proofs.put.WroteLaws.{wrote-then}
 use Rattle.trace.specs.Record.{alertText}
 use borrow.Author.Needs.{needs}
 use Rattle.trace.proofs.record.put_alert.Statement.{statement}

@@ -6,9 +6,9 @@ use mathlib.Core.Path.{_≡_}
 use native.Mathlib.Omega.{arith}
 use lib.ListN.{length, take}
 use Rattle.lines.specs.Wrote.{Wrote}
-use Rattle.lines.proofs.WroteLaws.{wrote-none, wrote-then, wrote-length}
+use Rattle.lines.proofs.put.WroteLaws.{wrote-none, wrote-then, wrote-length}
 use Rattle.trace.specs.Record.{alertsText}
-use Rattle.trace.proofs.RecordLaws.{alerts-more, alerts-all, mapped-long}
+use Rattle.trace.proofs.record.RecordLaws.{alerts-more, alerts-all, mapped-long}
 use Rattle.trace.proofs.record.put_alerts.Statement.{statement}
 use Rattle.trace.proofs.record.put_alerts.Tie as tie
 

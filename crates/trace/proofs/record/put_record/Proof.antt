@@ -1,5 +1,5 @@
 -- `trace::record::put_record` meets its contract: three lines and the alerts, one after the other. Assumes nothing.
-use Rattle.lines.proofs.WroteLaws.{wrote-then}
+use Rattle.lines.proofs.put.WroteLaws.{wrote-then}
 use Rattle.trace.specs.Record.{recordText}
 use borrow.Author.Needs.{needs}
 use Rattle.trace.proofs.record.put_record.Statement.{statement}

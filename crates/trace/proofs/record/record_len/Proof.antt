@@ -4,7 +4,7 @@ use mathlib.Core.Path.{_≡_}
 use native.Mathlib.Omega.{arith}
 use lib.ListN.{length}
 use Rattle.trace.specs.Record.{recordText}
-use Rattle.trace.proofs.RecordLaws.{record-sum}
+use Rattle.trace.proofs.record.RecordLaws.{record-sum}
 use borrow.Author.Needs.{needs}
 use Rattle.trace.proofs.record.record_len.Statement.{statement}
 use Rattle.trace.proofs.record.record_len.Tie as tie

@@ -6,10 +6,10 @@ use Prim.Native.Nat.{_-_, _/_, _≤_, _<_}
 use native.Mathlib.Omega.{arith}
 use lib.ListN.{length, take}
 use borrow.Author.Needs.{needs}
-use Rattle.tables.proofs.PlanLaws.{plan-place}
+use Rattle.tables.proofs.rules.PlanLaws.{plan-place}
 use Rattle.trace.specs.Groups.{patternIn}
-use Rattle.trace.proofs.LoadLaws.{Loading, load-long, load-none, load-start, load-stop, load-refused, load-turn, load-end}
-use Rattle.trace.proofs.BufferLaws.{pattern-part}
+use Rattle.trace.proofs.run.LoadLaws.{Loading, load-long, load-none, load-start, load-stop, load-refused, load-turn, load-end}
+use Rattle.trace.proofs.run.BufferLaws.{pattern-part}
 use Rattle.trace.proofs.run.load.Statement.{statement}
 use Rattle.trace.proofs.run.load.Tie as tie
 

@@ -9,13 +9,12 @@ use lib.Seq.{length-take-le}
 use borrow.Author.Needs.{needs}
 use Rattle.monitor.specs.Inspect.{storedAt}
 use Rattle.topics.specs.Matching.{portMatches}
-use Rattle.monitor.proofs.PlanLaws.{composed}
-use Rattle.monitor.proofs.ApplyLaws.{stored-yes, stored-no, withClients, withBuckets, withTrackers, stored-all}
+use Rattle.monitor.proofs.plan.PlanLaws.{composed}
+use Rattle.monitor.proofs.inspection.ApplyLaws.{stored-yes, stored-no, withClients, withBuckets, withTrackers, stored-all}
 use Rattle.trace.specs.Groups.{topicIn, payloadIn}
 use Rattle.trace.specs.Trace.{planned}
-use Rattle.trace.proofs.BufferLaws.{topic-part, payload-part}
-use Rattle.trace.proofs.RunLaws.{Going, going-start, going-small, turn-room, going-turn, close-room, close-end, close-bytes}
-use Rattle.trace.proofs.RunLaws.{left-end, left-stop, plan-sent, sentAt, read-further, unloaded-text, unloaded-end}
+use Rattle.trace.proofs.run.BufferLaws.{topic-part, payload-part}
+use Rattle.trace.proofs.run.RunLaws.{Going, going-start, going-small, turn-room, going-turn, close-room, close-end, close-bytes, left-end, left-stop, plan-sent, sentAt, read-further, unloaded-text, unloaded-end}
 use Rattle.trace.proofs.run.pass.Statement.{statement}
 use Rattle.trace.proofs.run.pass.Tie as tie
 

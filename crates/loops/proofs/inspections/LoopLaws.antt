@@ -1,0 +1,121 @@
+-- One turn of each loop: a rule more, stored or left out (`rule-taken`, `rule-left`), and a message more, by what its calls handed back (`state-turn`, `allowed-turn`, `from-turn`);
+-- the monitor between the loops (`held-start`); and what the loop answers where it does not run. Assumes nothing.
+use Prim.Native.Nat.{ℕ, zero, suc, _+_, _≤_, _<_}
+use mathlib.Core.Bool.{true, cond}
+use mathlib.Core.List.{List}
+use mathlib.Core.Path.{_≡_, refl, sym, _∙_}
+use native.Mathlib.Numerals.{add-one}
+use native.Mathlib.Omega.{arith}
+use lib.Dec.{leb}
+use lib.ListN.{length, set, replicate}
+use borrow.Author.Tests.{lt-ltb, le-ltb, leb-true}
+use Rattle.topics.specs.Matching.{portMatches}
+use Rattle.slices.specs.Bytes.{bytes}
+use Rattle.lines.specs.Span.{part}
+use Rattle.laws.proofs.Cases.{by}
+use Rattle.tables.specs.Rules.{emptyRule, rulePlan}
+use Rattle.tables.specs.declared.rules.MqttQoS.the-variants.{AtLeastOnce}
+use Rattle.tables.specs.declared.rules.QosPolicy.the-variants.{MinQoS}
+use Rattle.tables.specs.declared.rules.TopicAction.the-variants.{Allow, Block}
+use Rattle.tables.specs.declared.rules.TopicRule.{TopicRule}
+use Rattle.monitor.specs.Alerts.{counted}
+use Rattle.monitor.specs.Calls.{fresh}
+use Rattle.monitor.specs.Inspect.{applied}
+use Rattle.monitor.specs.Plan.{planOf}
+use Rattle.monitor.specs.Sound.{Sound}
+use Rattle.monitor.specs.State.{wellFormed, withRules}
+use Rattle.monitor.specs.declared.message.MqttMessage.{MqttMessage}
+use Rattle.monitor.specs.declared.plan.Plan.{Plan}
+use Rattle.tables.specs.declared.rules.RulePlan.{RulePlan}
+use Rattle.monitor.specs.declared.state.MqttMonitor.{MqttMonitor}
+use Rattle.monitor.proofs.rule_calls.AddLaws.{add-takes, add-leaves}
+use Rattle.monitor.proofs.PlainLaws.{holding, no-rules, Plain, fresh-plain, add-plain, add-default}
+use Rattle.monitor.proofs.SoundCalls.{sound-fresh, sound-add}
+use Rattle.loops.specs.Inspections.{patternOf, nextFrom, fromAt, messageAt, withRule, ruled, readied, rulesIn, stateAfter, allowedAfter, loopAllowed}
+use Rattle.loops.specs.declared.inspections.HeldRules.{HeldRules}
+
+-- a state with rules is sound
+ruled-sound : (k : ℕ) → Sound (ruled k)
+unfolding ruled
+ruled-sound zero = sound-fresh Block
+ruled-sound (suc k) = sound-add (ruled-sound k) (patternOf k) Allow (MinQoS AtLeastOnce) 65535
+
+-- it has nothing but them
+ruled-plain : (k : ℕ) → Plain (ruled k)
+unfolding ruled
+ruled-plain zero = fresh-plain Block
+ruled-plain (suc k) = add-plain (ruled k) (patternOf k) Allow (MinQoS AtLeastOnce) 65535 (ruled-plain k)
+
+-- and blocks by default
+ruled-blocks : (k : ℕ) → ruled k .«default_action» ≡ Block
+unfolding ruled fresh
+ruled-blocks zero = refl
+ruled-blocks (suc k) = add-default (ruled k) (patternOf k) Allow (MinQoS AtLeastOnce) 65535 ∙ ruled-blocks k
+
+-- so a fresh monitor that gets all the rules is the one that is wanted
+pub held-start : (n : ℕ) {m : MqttMonitor} {held : HeldRules} → m ≡ fresh Block → held ≡ rulesIn (readied n) → withRules m (held .rules) (held .«rule_count») ≡ readied n
+held-start n em eh =
+    let last = bytes "site/+/lamp/+" in
+    let default : readied n .«default_action» ≡ Block = add-default (ruled n) last Allow (MinQoS AtLeastOnce) 65535 ∙ ruled-blocks n in
+    rw (em, eh) (rw default at (add-plain (ruled n) last Allow (MinQoS AtLeastOnce) 65535 (ruled-plain n)))
+
+-- before the first
+pub ruled-none : {rules : List TopicRule} → rules ≡ replicate 32 emptyRule → holding Block rules 0 ≡ ruled 0
+unfolding ruled
+ruled-none e = rw e (no-rules Block)
+
+-- a rule whose plan is known
+module _ (k : ℕ) {rules : List TopicRule} {n : ℕ} (em : holding Block rules n ≡ ruled k) (p : List ℕ) {plan : RulePlan} (e : plan ≡ rulePlan rules n p Allow (MinQoS AtLeastOnce) 65535) where
+  -- number 10 does not come up
+  formed : wellFormed (holding Block rules n) ≡ true
+  formed = rw em (ruled-sound k .formed)
+
+  -- it is stored
+  pub rule-taken : plan .number ≡ 0 → holding Block (set rules (plan .at) (plan .rule)) (plan .count) ≡ withRule (ruled k) p
+  rule-taken z = rw (← em) (sym (add-takes (holding Block rules n) p Allow (MinQoS AtLeastOnce) 65535 e formed z))
+
+  -- the table stays
+  pub rule-left : (plan .number ≡ 0 → ⊥) → holding Block rules n ≡ withRule (ruled k) p
+  rule-left z = rw (← em) (sym (add-leaves (holding Block rules n) p Allow (MinQoS AtLeastOnce) 65535 e formed z))
+
+-- the loop's rules: one more
+pub ruled-turn : (k : ℕ) {m : MqttMonitor} {p : List ℕ} → p ≡ patternOf k → m ≡ withRule (ruled k) p → m ≡ ruled (k + 1)
+unfolding ruled
+ruled-turn k ep e = rw (e, ep, add-one k)
+
+-- a topic that begins where it should ends inside the text
+pub next-within : (long width from : ℕ) → width ≤ long → nextFrom long width from + width ≤ long
+next-within long width from h = by (leb (from + width + width) long) (λ e. rw e (leb-true _ _ e)) (λ e. rw e (omega (arith, h)))
+
+-- a message whose plan is known
+module _ (n : ℕ) (topics : List ℕ) (width size k : ℕ) {m : MqttMonitor} {msg : MqttMessage} {from : ℕ} {p : Plan} (em : m ≡ stateAfter n topics width size k)
+    (eg : msg ≡ messageAt width size k) (ef : from ≡ fromAt (length topics) width k) (ep : p ≡ planOf portMatches m msg (part topics from (from + width)) (bytes "on")) where
+  -- the state after it
+  pub state-turn : {next : MqttMonitor} → next ≡ applied m p → next ≡ stateAfter n topics width size (k + 1)
+  unfolding stateAfter
+  state-turn e = rw (e, ep, eg, ef, em, add-one k)
+
+  -- how many were allowed with it
+  pub allowed-turn : {a b : ℕ} → a ≡ allowedAfter n topics width size k → b ≡ cond (p .allowed) (counted a) a → b ≡ allowedAfter n topics width size (k + 1)
+  unfolding allowedAfter
+  allowed-turn ea eb = rw (eb, ep, eg, ef, em, ea, add-one k)
+
+-- where the next topic begins
+pub from-turn : (long width k : ℕ) {from next : ℕ} → from ≡ fromAt long width k → next ≡ nextFrom long width from → next ≡ fromAt long width (k + 1)
+unfolding fromAt
+from-turn long width k ef e = rw (e, ef, add-one k)
+
+-- the refusals and the answer
+module _ (n : ℕ) (topics : List ℕ) (width size k : ℕ) where
+  pub too-wide : 128 < width → loopAllowed n topics width size k ≡ 0
+  unfolding loopAllowed
+  too-wide h = rw (lt-ltb _ _ h)
+
+  module _ (h : width ≤ 128) where
+    pub none-lent : length topics < width → loopAllowed n topics width size k ≡ 0
+    unfolding loopAllowed
+    none-lent l = rw (le-ltb _ _ h, lt-ltb _ _ l)
+
+    pub all-run : width ≤ length topics → loopAllowed n topics width size k ≡ allowedAfter n topics width size k
+    unfolding loopAllowed
+    all-run l = rw (le-ltb _ _ h, le-ltb _ _ l)

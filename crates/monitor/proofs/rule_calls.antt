@@ -1,0 +1,2 @@
+pub mod AddLaws
+mod MoveLaws

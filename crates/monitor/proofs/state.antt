@@ -1,0 +1,3 @@
+pub mod EndedLaws
+pub mod FormedLaws
+pub mod KeptFormed

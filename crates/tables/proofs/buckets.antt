@@ -1,0 +1,5 @@
+pub mod BucketLaws
+mod DecideLaws
+mod PlaceLaws
+mod RefillLaws
+pub mod StepLaws

@@ -1,0 +1,4 @@
+mod NumberLaws
+pub mod PlanLaws
+pub mod RuleLaws
+mod ShadowLaws

@@ -1,0 +1,4 @@
+pub mod Difference
+mod MatchLaws
+pub mod Meaning
+mod StandardLaws

@@ -1,0 +1,3 @@
+pub mod PatternLaws
+pub mod Placed
+mod PlacedLaws

@@ -1,0 +1,3 @@
+mod BufferLaws
+mod LoadLaws
+pub mod RunLaws

@@ -1,0 +1,145 @@
+-- How rules are loaded one after the other: what is left of them to load (`Loading`) begins after the opening (`load-start`), goes on with a rule that was
+-- added (`load-turn`), and stops at a rule whose lines are refused (`load-stop`) or that is not taken (`load-refused`). The monitor is at each time a fresh one
+-- that has the rules of the table, so the table says all (`loaded-monitor`), and it is sound, so number 10 does not come up and `add_rule` does what its plan
+-- says. Assumes nothing.
+use Prim.Native.Nat.{ℕ, zero, suc, _+_, _-_, _*_, _≤_, _<_}
+use mathlib.Core.Path.{_≡_, refl, sym, ap, _∙_}
+use mathlib.Core.List.{List}
+use native.Mathlib.Omega.{arith}
+use native.Mathlib.Numerals.{sub-one}
+use lib.Dec.{eqb, leb}
+use lib.ListN.{length, set, replicate}
+use borrow.Author.Tests.{eq-eqb, ne-eqb, le-leb, lt-leb}
+use Rattle.tables.specs.Rules.{emptyRule, rulePlan}
+use Rattle.tables.specs.declared.rules.TopicAction.{TopicAction}
+use Rattle.tables.specs.declared.rules.TopicAction.the-variants.{Allow}
+use Rattle.tables.specs.declared.rules.TopicRule.{TopicRule}
+use Rattle.monitor.specs.Calls.{fresh, addRule}
+use Rattle.monitor.specs.Sound.{Sound}
+use Rattle.monitor.specs.State.{withRules}
+use Rattle.tables.specs.declared.rules.RulePlan.{RulePlan}
+use Rattle.monitor.specs.declared.state.MqttMonitor.{MqttMonitor}
+use Rattle.monitor.proofs.rule_calls.AddLaws.{add-number, add-takes, add-leaves}
+use Rattle.monitor.proofs.PlainLaws.{holding, no-rules, Plain, fresh-plain, add-plain}
+use Rattle.monitor.proofs.SoundCalls.{sound-fresh, sound-add}
+use Rattle.laws.proofs.Cases.{whichever}
+use Rattle.trace.specs.Groups.{openingOf, ruleAt, patternIn}
+use Rattle.trace.specs.Trace.{Loaded, notLoaded, ruleInto, rulesInto, loadedFrom, loaded, rulesOf}
+use Rattle.trace.specs.declared.groups.OpeningLines.{OpeningLines}
+use Rattle.trace.specs.declared.groups.RuleLines.{RuleLines}
+use Rattle.trace.specs.declared.run.LoadedRules.{LoadedRules}
+use Rattle.trace.proofs.groups.GroupLaws.{opening-within}
+
+-- rules after a refusal are not read
+rules-stop : (k : ℕ) (s : List ℕ) (l : Loaded) → (l .number ≡ 0 → ⊥) → rulesInto k s l ≡ l
+unfolding rulesInto
+rules-stop zero s l z = refl
+rules-stop (suc k) s l z = rw (ne-eqb _ _ z)
+
+-- one rule more
+rules-turn : (k : ℕ) (s : List ℕ) (l : Loaded) → 0 < k → l .number ≡ 0 → rulesInto k s l ≡ rulesInto (k - 1) s (ruleInto (l .monitor) s (l .line) (ruleAt s (l .next)))
+unfolding rulesInto
+rules-turn zero s l h z = absurd (omega arith)
+rules-turn (suc k) s l h z = rw (eq-eqb _ _ z, sub-one)
+
+-- only rules are added to a fresh monitor
+rule-plain : (m : MqttMonitor) (s : List ℕ) (line : ℕ) (r : RuleLines) → Plain m → Plain (ruleInto m s line r .monitor)
+unfolding ruleInto
+rule-plain m s line r h = whichever (λ (l : Loaded). Plain (l .monitor)) (eqb (r .number) 0) (add-plain m _ _ _ _ h) h
+
+rules-plain : (k : ℕ) (s : List ℕ) (l : Loaded) → Plain (l .monitor) → Plain (rulesInto k s l .monitor)
+unfolding rulesInto
+rules-plain zero s l h = h
+rules-plain (suc k) s l h =
+    whichever (λ (x : Loaded). Plain (x .monitor)) (eqb (l .number) 0)
+    (rules-plain k s (ruleInto (l .monitor) s (l .line) (ruleAt s (l .next))) (rule-plain (l .monitor) s (l .line) (ruleAt s (l .next)) h))
+    h
+
+-- the monitor that is loaded is a fresh one with the rules
+pub loaded-monitor : (s : List ℕ) → withRules (fresh (loaded s .monitor .«default_action»)) (loaded s .monitor .rules) (loaded s .monitor .«rule_count») ≡ loaded s .monitor
+unfolding loaded loadedFrom
+loaded-monitor s =
+    whichever (λ (l : Loaded). Plain (l .monitor)) (leb (length s) 65536)
+    (whichever (λ (l : Loaded). Plain (l .monitor)) (eqb (openingOf s .number) 0)
+    (rules-plain (openingOf s .rules) s (notLoaded 0 2 (openingOf s .next) (fresh (openingOf s .«default_action»))) (fresh-plain _))
+    (fresh-plain _))
+    (fresh-plain _)
+
+-- what a table of rules says of what is loaded
+abbrev table : ℕ → ℕ → ℕ → TopicAction → List TopicRule → ℕ → LoadedRules
+table number line next default rules n =
+    record { number = number; line = line; next = next; «default_action» = default; «rule_count» = n; rules = rules }
+
+says : {l : Loaded} {number line next : ℕ} (default : TopicAction) {rules : List TopicRule} {n : ℕ} → notLoaded number line next (holding default rules n) ≡ l
+    → table number line next default rules n ≡ rulesOf l
+unfolding fresh
+says default e = ap rulesOf e
+
+-- the text is too long
+pub load-long : (s : List ℕ) {rules : List TopicRule} → 65536 < length s → rules ≡ replicate 32 emptyRule → table 27 0 0 Allow rules 0 ≡ rulesOf (loaded s)
+unfolding loaded
+load-long s h g = says {l = loaded s} Allow (rw (lt-leb _ _ h, g, no-rules Allow))
+
+-- the opening is refused
+pub load-none : (s : List ℕ) {o : OpeningLines} {rules : List TopicRule} → length s ≤ 65536 → o ≡ openingOf s → (o .number ≡ 0 → ⊥) → rules ≡ replicate 32 emptyRule
+    → table (o .number) (1 + o .line) (o .next) (o .«default_action») rules 0 ≡ rulesOf (loaded s)
+unfolding loaded loadedFrom
+load-none s {o} h e z g = says {l = loaded s} (o .«default_action») (rw (le-leb _ _ h, ← e, ne-eqb _ _ z, g, no-rules (o .«default_action»)))
+
+-- so many rules are left after so many lines, and these are held
+pub record Loading (s : List ℕ) (left line at : ℕ) (default : TopicAction) (rules : List TopicRule) (n : ℕ) : Type 0 where
+  pub short : line + 4 * left ≤ 130
+  pub sound : Sound (holding default rules n)
+  pub rest : rulesInto left s (notLoaded 0 line at (holding default rules n)) ≡ loaded s
+
+-- after the opening
+pub load-start : (s : List ℕ) {o : OpeningLines} {rules : List TopicRule} → length s ≤ 65536 → o ≡ openingOf s → o .number ≡ 0 → rules ≡ replicate 32 emptyRule
+    → Loading s (o .rules) 2 (o .next) (o .«default_action») rules 0
+unfolding loaded loadedFrom
+load-start s {o} h e z g =
+    record {
+      short = omega (arith, opening-within s e .count);
+      sound = rw (g, no-rules (o .«default_action»)) (sound-fresh (o .«default_action»));
+      rest = rw (le-leb _ _ h, ← e, eq-eqb _ _ z, g, no-rules (o .«default_action»));
+    }
+
+module _ {s : List ℕ} {left line at : ℕ} {default : TopicAction} {rules : List TopicRule} {n : ℕ} (l : Loading s left line at default rules n)
+    (more : 0 < left) {r : RuleLines} (e : r ≡ ruleAt s at) where
+  turn : rulesInto (left - 1) s (ruleInto (holding default rules n) s line r) ≡ loaded s
+  turn = rw e (sym (rules-turn left s (notLoaded 0 line at (holding default rules n)) more refl) ∙ l .rest)
+
+  -- the rule's lines are refused
+  pub load-stop : (r .number ≡ 0 → ⊥) → table (r .number) (line + 1 + r .line) (r .next) default rules n ≡ rulesOf (loaded s)
+  unfolding ruleInto
+  load-stop z =
+      says default (sym (rules-stop (left - 1) s (notLoaded (r .number) (line + 1 + r .line) (r .next) (holding default rules n)) z) ∙ (rw (ne-eqb _ _ z) at turn))
+
+  module _ (z : r .number ≡ 0) {p : List ℕ} (pe : p ≡ patternIn s r) {plan : RulePlan} (de : plan ≡ rulePlan rules n p (r .action) (r .«qos_policy») (r .rate)) where
+    abbrev after : MqttMonitor
+    after = addRule (holding default rules n) p (r .action) (r .«qos_policy») (r .rate) .monitor
+
+    added : rulesInto (left - 1) s (notLoaded (plan .number) (line + 4) (r .next) after) ≡ loaded s
+    unfolding ruleInto
+    added = rw (← add-number (holding default rules n) p (r .action) (r .«qos_policy») (r .rate) de (l .sound .formed), pe) (rw (eq-eqb _ _ z) at turn)
+
+    -- the rule is not taken
+    pub load-refused : (plan .number ≡ 0 → ⊥) → table (plan .number) (line + 4) (r .next) default rules n ≡ rulesOf (loaded s)
+    load-refused y =
+        let k = add-leaves (holding default rules n) p (r .action) (r .«qos_policy») (r .rate) de (l .sound .formed) y in
+        says default (sym (rules-stop (left - 1) s (notLoaded (plan .number) (line + 4) (r .next) (holding default rules n)) y) ∙ (rw k at added))
+
+    -- the rule is taken
+    pub load-turn : plan .number ≡ 0 → Loading s (left - 1) (line + 4) (r .next) default (set rules (plan .at) (plan .rule)) (plan .count)
+    load-turn y =
+        let k = add-takes (holding default rules n) p (r .action) (r .«qos_policy») (r .rate) de (l .sound .formed) y in
+        record {
+          short = omega (arith, l .short);
+          sound = rw k at (sound-add (l .sound) p (r .action) (r .«qos_policy») (r .rate));
+          rest = rw (k, y) at added;
+        }
+
+-- all rules are loaded
+pub load-end : {s : List ℕ} {left line at : ℕ} {default : TopicAction} {rules : List TopicRule} {n : ℕ} → Loading s left line at default rules n → left ≡ 0
+    → table 0 line at default rules n ≡ rulesOf (loaded s)
+unfolding rulesInto
+load-end {default} l z = says default (rw z at (l .rest))
