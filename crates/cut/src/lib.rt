@@ -7,7 +7,7 @@ ghost use Prim.Native.Nat.{_+_, _-_, _≤_};
 ghost use mathlib.Core.Path.{_≡_};
 ghost use lib.ListN.{length, take, drop};
 ghost use Rattle.slices.specs.Bytes.{findByte};
-use lines::held::find_byte;
+use slices::bytes::find_byte;
 
 // What stands before the first `b`: all of `s` where there is none.
 pub fn before(s: &[u8], b: u8) -> &[u8]
