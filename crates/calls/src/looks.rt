@@ -165,7 +165,7 @@ fn say_record_16(m: MqttMonitor, name: &[u8], at: usize) {
         say_tracker(at, m.ewma_trackers[at]);
         return;
     }
-    say_window(at, m.client_hashes[at]);
+    say_window(at, m.connect_windows[at]);
 }
 
 // A record of any table.

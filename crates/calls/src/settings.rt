@@ -112,8 +112,8 @@ fn set_at_16(m: MqttMonitor, name: &[u8], q: &[u8]) -> MqttMonitor {
     }
     let mut next = m;
     if is(name, b"window_count|window_next") {
-        let entry = set_window(m.client_hashes[at], name, q);
-        next.client_hashes[at] = entry;
+        let entry = set_window(m.connect_windows[at], name, q);
+        next.connect_windows[at] = entry;
         return next;
     }
     let tracker = set_tracker(m.ewma_trackers[at], name, q);

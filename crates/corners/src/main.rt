@@ -16,7 +16,7 @@ use topics::matching::topic_matches;
 use topics::patterns::validate_mqtt_wildcard;
 ghost use Prim.Native.Nat.{_≤_};
 ghost use lib.ListN.{length};
-ghost use Rattle.corners.specs.Parts.{Within};
+ghost use Rattle.corners.specs.Parts.{PartIn};
 
 // A quoted part of a line, and the place after its closing quote.
 struct Part {
@@ -150,7 +150,7 @@ fn say(text: &[u8]) {
 // What stands between the first two quotes from `from` on.
 fn quoted(line: &[u8], from: usize) -> Part
     requires { ⌜ from ≤ length (now line) ⌝ }
-    ensures { λ r. ⌜ Within r (length (now (line .entry))) ⌝ }
+    ensures { λ r. ⌜ PartIn r (length (now (line .entry))) ⌝ }
 {
     let open = place_of(line, from, b'"');
     if open == line.len() {

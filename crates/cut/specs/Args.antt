@@ -40,16 +40,16 @@ unfoldable pub argOf : ℕ → List ℕ → List ℕ
 argOf k q = cond (isOneOf (bytes "-") (fieldOf k q)) [] (fieldOf k q)
 
 -- the number that it spells, of 64 bits
-unfoldable pub numberOf : ℕ → List ℕ → ℕ
-numberOf k q = spelledOr0 (decimalOf 0 18446744073709551615 (argOf k q))
+unfoldable pub numberIn : ℕ → List ℕ → ℕ
+numberIn k q = spelledOr0 (decimalOf 0 18446744073709551615 (argOf k q))
 
 -- it is 1
 abbrev pub flagOf : ℕ → List ℕ → Bool
-flagOf k q = eqb (numberOf k q) 1
+flagOf k q = eqb (numberIn k q) 1
 
 -- the number, at most `most`
 abbrev pub sizeOf : ℕ → List ℕ → ℕ → ℕ
-sizeOf k q most = min (numberOf k q) most
+sizeOf k q most = min (numberIn k q) most
 
 -- it spells at most `room` bytes in hex
 abbrev pub isBytes : ℕ → List ℕ → ℕ → Bool

@@ -4,7 +4,7 @@ ghost use Prim.Native.Nat.{_≤_};
 ghost use mathlib.Core.Path.{_≡_};
 ghost use lib.ListN.{length, take};
 ghost use Rattle.lines.specs.ReadHex.{hexInto};
-ghost use Rattle.cut.specs.Args.{restOf, fieldOf, isOneOf, argOf, numberOf, flagOf, sizeOf, bytesOf};
+ghost use Rattle.cut.specs.Args.{restOf, fieldOf, isOneOf, argOf, numberIn, flagOf, sizeOf, bytesOf};
 use crate::after;
 use crate::before;
 use crate::upto;
@@ -61,7 +61,7 @@ pub fn arg(q: &[u8], k: usize) -> &[u8]
 
 // An argument that is a number.
 pub fn number(q: &[u8], k: usize) -> u64
-    ensures { λ r. ⌜ r ≡ numberOf k (now (q .entry)) ⌝ }
+    ensures { λ r. ⌜ r ≡ numberIn k (now (q .entry)) ⌝ }
 {
     match value::decimal(arg(q, k), 0, 18446744073709551615) {
         Number::Value(n) => n,
@@ -71,7 +71,7 @@ pub fn number(q: &[u8], k: usize) -> u64
 
 // An argument that is a place or a count.
 pub fn place(q: &[u8], k: usize) -> usize
-    ensures { λ r. ⌜ r ≡ numberOf k (now (q .entry)) ⌝ }
+    ensures { λ r. ⌜ r ≡ numberIn k (now (q .entry)) ⌝ }
 {
     number(q, k) as usize
 }

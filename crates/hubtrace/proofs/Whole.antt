@@ -1,5 +1,5 @@
 -- A buffer of `enough` bytes holds the whole answer to any text: `run_trace` does not end in 28 there, and the bytes that it counts are all of
--- `traceText`. It stands on the bound of `trace` on that text. So they are what is answered to a text that was read to its end. Assumes nothing.
+-- `traceText`. It stands on the bound of `trace` on that text. So they are what is answerTo to a text that was read to its end. Assumes nothing.
 use Prim.Native.Nat.{ℕ, _+_, _≤_}
 use mathlib.Core.Path.{_≡_, sym, ap, _∙_}
 use mathlib.Core.List.{List}
@@ -11,8 +11,8 @@ use Rattle.io.specs.Counts.{Counts}
 use Rattle.io.proofs.Counting.{counts}
 use Rattle.trace.specs.Trace.{traceText, traceEnd, traceKept, enough}
 use Rattle.trace.proofs.Bound.{trace-enough}
-use Rattle.hubtrace.specs.Answered.{answered}
-use Rattle.hubtrace.specs.Turns.{Within}
+use Rattle.hubtrace.specs.Answered.{answerTo}
+use Rattle.hubtrace.specs.Turns.{DoneWithin}
 use Rattle.hubtrace.specs.declared.turn.Done.{Done}
 use Rattle.hubtrace.specs.declared.turn.Done.the-variants.{Bytes}
 
@@ -30,11 +30,11 @@ whole d s h =
     (counts (length (traceText s)) (sets d 0 (traceText s)) (omega (arith, fits, length-sets d 0 (traceText s))), stored d (traceText s) fits)
 
 -- what was read is a part of the buffer that it was read into
-pub read-part : (r : Done) (k : ℕ) (s : List ℕ) → r ≡ Bytes k → Within r (length s) → k ≡ length (take k s)
+pub read-part : (r : Done) (k : ℕ) (s : List ℕ) → r ≡ Bytes k → DoneWithin r (length s) → k ≡ length (take k s)
 read-part r k s e w = let h : k ≤ length s = rw e at w in sym (length-take-le k s h)
 
 pub answered-whole : (d s : List ℕ) (r : Done) (k : ℕ) → enough ≡ length d → r ≡ Bytes k
     → Counts (traceEnd (length d) (take k s) .length) (traceKept d (take k s))
-    × (take (traceEnd (length d) (take k s) .length) (traceKept d (take k s)) ≡ answered r s)
-unfolding answered
+    × (take (traceEnd (length d) (take k s) .length) (traceKept d (take k s)) ≡ answerTo r s)
+unfolding answerTo
 answered-whole d s r k h e = rw e (whole d (take k s) h)

@@ -6,6 +6,6 @@ use Rattle.trace.specs.Trace.{traceText}
 use Rattle.hubtrace.specs.declared.turn.Done.{Done}
 use Rattle.hubtrace.specs.declared.turn.Done.the-variants.{Bytes, Failed}
 
-unfoldable pub answered : Done → List ℕ → List ℕ
-answered (Bytes n) s = traceText (take n s)
-answered Failed s = []
+unfoldable pub answerTo : Done → List ℕ → List ℕ
+answerTo (Bytes n) s = traceText (take n s)
+answerTo Failed s = []

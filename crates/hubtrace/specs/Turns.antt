@@ -26,9 +26,9 @@ Fits turn.Again n = Unit {0}
 Fits turn.Failed n = Unit {0}
 
 -- an input of no more bytes than there was room for, or none
-abbrev pub Within : Done → ℕ → Type 0
-Within (done.Bytes k) n = k ≤ n
-Within done.Failed n = Unit {0}
+abbrev pub DoneWithin : Done → ℕ → Type 0
+DoneWithin (done.Bytes k) n = k ≤ n
+DoneWithin done.Failed n = Unit {0}
 
 -- an output of which every byte was taken, or a failed one
 abbrev pub Whole : Done → ℕ → Type 0

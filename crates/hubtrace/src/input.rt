@@ -1,13 +1,13 @@
 // Standard input, all of it or none: an end of input is told from a read that failed, and a part of a trace is never taken for the whole.
 ghost use lib.ListN.{length};
-ghost use Rattle.hubtrace.specs.Turns.{Within, Fits};
+ghost use Rattle.hubtrace.specs.Turns.{DoneWithin, Fits};
 use crate::turn;
 use crate::turn::Done;
 use crate::turn::Turn;
 
 // Reads until the input ends or `buf` is full. A read that was interrupted, or that found a pipe empty, is made again.
 pub fn read_all(fd: i32, buf: &mut [u8]) -> Done
-    ensures { λ r. ⌜ Within r (length (now (buf .exit))) ⌝ }
+    ensures { λ r. ⌜ DoneWithin r (length (now (buf .exit))) ⌝ }
 {
     let mut n = 0;
     let mut left = turn::PATIENCE;

@@ -13,8 +13,8 @@ ghost use mathlib.Core.Path.{_≡_};
 ghost use lib.ListN.{length, take};
 ghost use Rattle.io.specs.Counts.{Counts};
 ghost use Rattle.trace.specs.Trace.{enough};
-ghost use Rattle.hubtrace.specs.Answered.{answered};
-ghost use Rattle.hubtrace.specs.Turns.{Within};
+ghost use Rattle.hubtrace.specs.Answered.{answerTo};
+ghost use Rattle.hubtrace.specs.Turns.{DoneWithin};
 
 // Room for the longest trace, 65,536 bytes, and for one byte more, by which a longer one is known (27).
 fn text_buffer() -> [u8; 65537]
@@ -30,12 +30,12 @@ fn answer_buffer() -> [u8; 786432]
     [0; 786432]
 }
 
-// The answer to what was read at the beginning of `out`, and its length. There is room for all of it, so 28 never happens. A failed read is not answered.
+// The answer to what was read at the beginning of `out`, and its length. There is room for all of it, so 28 never happens. A failed read is not answerTo.
 fn answer(read: Done, text: &[u8], out: &mut [u8]) -> usize
-    requires { ⌜ Within read (length (now text)) ⌝ }
+    requires { ⌜ DoneWithin read (length (now text)) ⌝ }
     requires { ⌜ enough ≡ length (now out) ⌝ }
     ensures { λ r. ⌜ Counts r (now (out .exit)) ⌝ }
-    ensures { λ r. ⌜ take r (now (out .exit)) ≡ answered read (now (text .entry)) ⌝ }
+    ensures { λ r. ⌜ take r (now (out .exit)) ≡ answerTo read (now (text .entry)) ⌝ }
 {
     let Done::Bytes(n) = read else {
         return 0;
@@ -58,7 +58,7 @@ fn main() {
     let mut out = answer_buffer();
     let length = answer(read, &text, &mut out);
     match read {
-        Done::Failed => os::fail(b"hubtrace: the trace could not be read, so nothing was answered"),
+        Done::Failed => os::fail(b"hubtrace: the trace could not be read, so nothing was answerTo"),
         Done::Bytes(_) => print(&out[..length]),
     }
 }

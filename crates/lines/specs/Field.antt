@@ -68,14 +68,14 @@ wordField s at key ws =
     onLine line (answered line (placeIn s at) 23 (wordOf ws (valueOf s line)))
 
 -- a value that spells bytes, of which there is a count, or is refused by `number`
-abbrev pub counted : Field → ℕ → ℕ → ℕ → Field
-counted line at number count = cond (eqb number 0) (read line count) (refused number at)
+abbrev pub spelledBytes : Field → ℕ → ℕ → ℕ → Field
+spelledBytes line at number count = cond (eqb number 0) (read line count) (refused number at)
 
 -- the line at `at` as hex of at most `room` bytes: 24 or 25 where its value is none
 unfoldable pub hexField : List ℕ → ℕ → List ℕ → ℕ → Field
 hexField s at key room =
     let line = lineAt s at key in
-    onLine line (counted line (placeIn s at) (hexRefusal room (valueOf s line)) (hexCount (valueOf s line)))
+    onLine line (spelledBytes line (placeIn s at) (hexRefusal room (valueOf s line)) (hexCount (valueOf s line)))
 
 -- the buffer `d` after the hex of the line at `at` was read into it; untouched where the line was refused
 unfoldable pub hexKept : List ℕ → ℕ → List ℕ → List ℕ → List ℕ

@@ -6,7 +6,7 @@ use mathlib.Core.List.{List, _∷_, _++_}
 use Prim.Native.Nat.{ℕ, zero, suc, _+_, _*_, _%_}
 use lib.Dec.{ltb, leb}
 use lib.ListN.{length}
-use Rattle.topics.specs.Matching.{portMatches}
+use Rattle.tables.specs.Rules.{ruleMatches}
 use Rattle.slices.specs.Bytes.{bytes}
 use Rattle.lines.specs.Span.{part}
 use Rattle.tables.specs.declared.rules.MqttQoS.the-variants.{AtLeastOnce}
@@ -23,8 +23,8 @@ use Rattle.monitor.specs.declared.state.MqttMonitor.{MqttMonitor}
 use Rattle.loops.specs.declared.inspections.HeldRules.{HeldRules}
 
 -- a pattern that takes no topic below `site/+/lamp`: `site/+/room-0/#` and so on
-abbrev pub patternOf : ℕ → List ℕ
-patternOf k = bytes "site/+/room-" ++ ((48 + k % 32) ∷ bytes "/#")
+abbrev pub patternAt : ℕ → List ℕ
+patternAt k = bytes "site/+/room-" ++ ((48 + k % 32) ∷ bytes "/#")
 
 -- where the next topic begins, in a text of topics of one width: after the last comes the first
 abbrev pub nextFrom : ℕ → ℕ → ℕ → ℕ
@@ -36,8 +36,8 @@ fromAt long width zero = 0
 fromAt long width (suc k) = nextFrom long width (fromAt long width k)
 
 -- the k-th message, 10,000 microseconds after the one before it
-abbrev pub messageAt : ℕ → ℕ → ℕ → MqttMessage
-messageAt width size k =
+abbrev pub loopMessage : ℕ → ℕ → ℕ → MqttMessage
+loopMessage width size k =
     record {
       «packet_type» = Publish;
       «topic_len» = width;
@@ -49,28 +49,28 @@ messageAt width size k =
     }
 
 -- a state with one rule more, which limits
-abbrev pub withRule : MqttMonitor → List ℕ → MqttMonitor
-withRule m pattern = addRule m pattern Allow (MinQoS AtLeastOnce) 65535 .monitor
+abbrev pub withPattern : MqttMonitor → List ℕ → MqttMonitor
+withPattern m pattern = addRule m pattern Allow (MinQoS AtLeastOnce) 65535 .monitor
 
 -- so many rules that take none of these
 unfoldable pub ruled : ℕ → MqttMonitor
 ruled zero = fresh Block
-ruled (suc k) = withRule (ruled k) (patternOf k)
+ruled (suc k) = withPattern (ruled k) (patternAt k)
 
 -- and one last that takes every topic below `site/+/lamp`
 abbrev pub readied : ℕ → MqttMonitor
-readied n = withRule (ruled n) (bytes "site/+/lamp/+")
+readied n = withPattern (ruled n) (bytes "site/+/lamp/+")
 
 -- the rules of a state
-abbrev pub rulesIn : MqttMonitor → HeldRules
-rulesIn m = record { «rule_count» = m .«rule_count»; rules = m .rules }
+abbrev pub heldRules : MqttMonitor → HeldRules
+heldRules m = record { «rule_count» = m .«rule_count»; rules = m .rules }
 
 -- messages of one size, on topics of one width in turn
 module _ (n : ℕ) (topics : List ℕ) (width size : ℕ) where
   -- what the k-th message does to a state
   abbrev pub planAt : MqttMonitor → ℕ → Plan
   planAt m k =
-      planOf portMatches m (messageAt width size k) (part topics (fromAt (length topics) width k) (fromAt (length topics) width k + width)) (bytes "on")
+      planOf ruleMatches m (loopMessage width size k) (part topics (fromAt (length topics) width k) (fromAt (length topics) width k + width)) (bytes "on")
 
   -- the state after the first messages
   unfoldable pub stateAfter : ℕ → MqttMonitor

@@ -5,7 +5,6 @@ use monitor::calls::new_deny_default;
 use monitor::message::MqttMessage;
 use monitor::message::MqttPacketType;
 use monitor::plan::plan_for;
-use monitor::rule_calls::plan_rule;
 use monitor::state::MqttMonitor;
 use monitor::state::free_rules;
 use tables::rules::MqttQoS;
@@ -16,7 +15,7 @@ ghost use mathlib.Core.Bool.{cond};
 ghost use mathlib.Core.Path.{_≡_};
 ghost use Prim.Native.Nat.{_+_, _-_, _≤_, min, max};
 ghost use Rattle.monitor.specs.Alerts.{counted};
-ghost use Rattle.loops.specs.Inspections.{patternOf, nextFrom, messageAt, readied, rulesIn, loopAllowed};
+ghost use Rattle.loops.specs.Inspections.{patternAt, nextFrom, loopMessage, readied, heldRules, loopAllowed};
 
 // A number brought into 1 to `most`.
 fn within(n: u32, most: u32) -> u32
@@ -34,7 +33,7 @@ fn within(n: u32, most: u32) -> u32
 
 // A pattern that takes no topic below `site/+/lamp`.
 fn pattern_of(k: u32) -> [u8; 15]
-    ensures { λ r. ⌜ r ≡ patternOf k ⌝ }
+    ensures { λ r. ⌜ r ≡ patternAt k ⌝ }
 {
     [
         b's',
@@ -68,7 +67,7 @@ fn next_from(length: usize, width: usize, from: usize) -> usize
 
 // The k-th message, 10,000 microseconds after the one before it.
 fn message_at(topic_len: u8, size: u16, k: u32) -> MqttMessage
-    ensures { λ r. ⌜ r ≡ messageAt «topic_len» size k ⌝ }
+    ensures { λ r. ⌜ r ≡ loopMessage «topic_len» size k ⌝ }
 {
     MqttMessage {
         packet_type: MqttPacketType::Publish,
@@ -89,7 +88,7 @@ pub struct HeldRules {
 
 // So many rules that take no topic below `site/+/lamp`, and one last that takes them all. The table is the only part of a monitor that is owned here, and each rule is stored in place.
 fn held(others: u32) -> HeldRules
-    ensures { λ r. ⌜ r ≡ rulesIn (readied others) ⌝ }
+    ensures { λ r. ⌜ r ≡ heldRules (readied others) ⌝ }
 {
     let mut rules = free_rules();
     let mut rule_count = 0;
@@ -181,7 +180,7 @@ pub extern "C" fn hub_loop(rules: u32, topics: &[u8], width: u8, size: u16, mess
         let seen_at = seen.at;
         if seen_at < 16 {
             let entry = seen.entry;
-            m.client_hashes[seen_at] = entry;
+            m.connect_windows[seen_at] = entry;
         }
         let spent = plan.spent;
         let spent_at = spent.at;

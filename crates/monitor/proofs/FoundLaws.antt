@@ -8,6 +8,7 @@ use borrow.Author.Tests.{eqb-true}
 use lib.Dec.{eqb, ltb}
 use Rattle.laws.specs.Lists.{none}
 use Rattle.topics.specs.Names.{isBroad, startsWithDollar, badPublish}
+use Rattle.laws.proofs.Cases.{whichever}
 use Rattle.laws.proofs.Tests.{both}
 use Rattle.tables.specs.declared.buckets.RateCheckResult.{RateCheckResult}
 use Rattle.tables.specs.declared.buckets.RateCheckResult.the-variants.{Allowed, Limited, EvictedAndDenied}
@@ -16,7 +17,7 @@ use Rattle.tables.specs.declared.rules.TopicAction.{TopicAction}
 use Rattle.tables.specs.declared.rules.TopicRule.{TopicRule}
 use Rattle.tables.specs.declared.windows.ConnectDecision.{ConnectDecision}
 use Rattle.monitor.specs.Alerts.{denies}
-use Rattle.monitor.specs.Gate.{isBlock, isTopical, endsEarly, deniedBy, passes, gateAfter, gateOf, rulingOf}
+use Rattle.monitor.specs.Gate.{isBlock, isTopical, endsEarly, deniedBy, goesOn, gateAfter, gateOf, rulingOf}
 use Rattle.monitor.specs.Message.{typeNumber}
 use Rattle.monitor.specs.Plan.{limiterKind, denialOf, fedOf, planFrom, planOf, findingsIn}
 use Rattle.monitor.specs.declared.gate.Gate.{Gate}
@@ -33,11 +34,6 @@ record Fair (g : Gate) : Type 0 where
   settled : Settled (g .denial)
   apart : g .broad ≡ true → g .feeds ≡ false
 
--- what holds of both holds of either
-pub either : {A : Type 0} (P : A → Type 0) (c : Bool) {x y : A} → P x → P y → P (cond c x y)
-either P true p q = p
-either P false p q = q
-
 -- a Subscribe is no Publish
 apart-types : (n : ℕ) (b c : Bool) → eqb n 8 && b ≡ true → eqb n 3 && c ≡ false
 apart-types n b c h = rw (eqb-true n 8 (both (eqb n 8) b h .0))
@@ -49,7 +45,7 @@ ends-fair k s = record { settled = s; apart = λ e. refl }
 denied-fair : (k : ℕ) (broad : Bool) (r : Ruling) → Settled k → Fair (deniedBy k broad r)
 denied-fair k broad r s = record { settled = s; apart = λ e. refl }
 
-passes-fair : (msg : MqttMessage) (topic : List ℕ) (r : Ruling) → Fair (passes msg (eqb (typeNumber (msg .«packet_type»)) 8 && isBroad topic) r)
+passes-fair : (msg : MqttMessage) (topic : List ℕ) (r : Ruling) → Fair (goesOn msg (eqb (typeNumber (msg .«packet_type»)) 8 && isBroad topic) r)
 unfolding denies
 passes-fair msg topic r =
     record { settled = refl; apart = apart-types (typeNumber (msg .«packet_type»)) (isBroad topic) (ltb 0 (msg .«payload_len»)) }
@@ -58,8 +54,8 @@ after-fair : (msg : MqttMessage) (topic : List ℕ) (r : Ruling) → Fair (gateA
 unfolding gateAfter denies
 after-fair msg topic r =
     let subscribe = eqb (typeNumber (msg .«packet_type»)) 8 in
-    either Fair (subscribe && startsWithDollar topic && not (r .found && not (isBlock (r .action)))) (denied-fair 10 (isBroad topic) r refl)
-    (either Fair (isBlock (r .action)) (denied-fair 3 (subscribe && isBroad topic) r refl) (passes-fair msg topic r))
+    whichever Fair (subscribe && startsWithDollar topic && not (r .found && not (isBlock (r .action)))) (denied-fair 10 (isBroad topic) r refl)
+    (whichever Fair (isBlock (r .action)) (denied-fair 3 (subscribe && isBroad topic) r refl) (passes-fair msg topic r))
 
 -- every gate
 fair : (matcher : List ℕ → List ℕ → Bool) (rules : List TopicRule) (n : ℕ) (default : TopicAction) (msg : MqttMessage) (topic : List ℕ)
@@ -67,9 +63,9 @@ fair : (matcher : List ℕ → List ℕ → Bool) (rules : List TopicRule) (n : 
 unfolding gateOf denies
 fair matcher rules n default msg topic =
     let type = typeNumber (msg .«packet_type») in
-    either Fair (not (isTopical type)) (ends-fair 0 refl)
-    (either Fair (none topic) (ends-fair 2 refl)
-    (either Fair (eqb type 3 && badPublish topic) (ends-fair 9 refl) (after-fair msg topic (rulingOf matcher rules n default topic))))
+    whichever Fair (not (isTopical type)) (ends-fair 0 refl)
+    (whichever Fair (none topic) (ends-fair 2 refl)
+    (whichever Fair (eqb type 3 && badPublish topic) (ends-fair 9 refl) (after-fair msg topic (rulingOf matcher rules n default topic))))
 
 -- the limiter's kind
 limiter-settled : (r : RateCheckResult) → Settled (limiterKind r)
@@ -82,7 +78,7 @@ limiter-settled EvictedAndDenied = refl
 denial-settled : (seen : ConnectDecision) (g : Gate) (spent : RateDecision) → Fair g → Settled (denialOf seen g spent)
 unfolding denialOf denies
 denial-settled seen g spent f =
-    either Settled (seen .storm) refl (either Settled (ltb 0 (g .denial)) (f .settled) (limiter-settled (spent .result)))
+    whichever Settled (seen .storm) refl (whichever Settled (ltb 0 (g .denial)) (f .settled) (limiter-settled (spent .result)))
 
 -- a plan's
 module _ (matcher : List ℕ → List ℕ → Bool) (m : MqttMonitor) (msg : MqttMessage) (topic payload : List ℕ) where

@@ -1,10 +1,10 @@
 pub mod Denied
-mod EveryLaws
 pub mod FoundLaws
 pub mod Four
 pub mod Link
 pub mod PlainLaws
 pub mod Prepared
+mod Ranged
 pub mod Reached
 pub mod Replies
 mod SoundBuckets
@@ -15,5 +15,5 @@ mod SoundMoves
 mod SoundRules
 mod SoundTrackers
 mod SoundWindows
-mod StoreLaws
 pub mod Total
+mod Unbroken

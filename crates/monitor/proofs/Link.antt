@@ -21,7 +21,7 @@ use Rattle.tables.specs.declared.buckets.RateCheckResult.the-variants.{Allowed,
 use Rattle.tables.specs.declared.rules.TopicAction.{TopicAction}
 use Rattle.tables.specs.declared.rules.TopicRule.{TopicRule}
 use Rattle.tables.proofs.buckets.StepLaws.{grants, stored}
-use Rattle.monitor.specs.Gate.{isBlock, isTopical, endsEarly, deniedBy, passes, gateAfter, gateOf, rulingOf}
+use Rattle.monitor.specs.Gate.{isBlock, isTopical, endsEarly, deniedBy, goesOn, gateAfter, gateOf, rulingOf}
 use Rattle.monitor.specs.Inspect.{storedAt, applied, inspectRefusal, inspectWith}
 use Rattle.monitor.specs.Message.{typeNumber, usedTopic}
 use Rattle.monitor.specs.Plan.{seenOf, spentOf, limiterKind, denialOf, gateIn, planFrom, planOf}
@@ -40,7 +40,7 @@ past : (msg : MqttMessage) (c : Bool) (g k : Gate) → g .rate ≡ 0 → (ltb 0 
 past msg true g k z f h = absurd (false≢true (rw z at h))
 past msg false g k z f h = f h
 
-passing : (msg : MqttMessage) (broad : Bool) (r : Ruling) → ltb 0 (passes msg broad r .rate) ≡ true → Reaching msg (passes msg broad r)
+passing : (msg : MqttMessage) (broad : Bool) (r : Ruling) → ltb 0 (goesOn msg broad r .rate) ≡ true → Reaching msg (goesOn msg broad r)
 passing msg broad r h =
     by (eqb (typeNumber (msg .«packet_type»)) 3)
     (λ e. record { passes-gate = refl; publish = eqb-true _ _ e })
@@ -51,8 +51,8 @@ unfolding gateAfter
 after-choice msg topic r =
     let broad : Bool = eqb (typeNumber (msg .«packet_type»)) 8 && isBroad topic in
     past msg (eqb (typeNumber (msg .«packet_type»)) 8 && startsWithDollar topic && not (r .found && not (isBlock (r .action)))) (deniedBy 10 (isBroad topic) r)
-    (cond (isBlock (r .action)) (deniedBy 3 broad r) (passes msg broad r)) refl
-    (past msg (isBlock (r .action)) (deniedBy 3 broad r) (passes msg broad r) refl (passing msg broad r))
+    (cond (isBlock (r .action)) (deniedBy 3 broad r) (goesOn msg broad r)) refl
+    (past msg (isBlock (r .action)) (deniedBy 3 broad r) (goesOn msg broad r) refl (passing msg broad r))
 
 pub reaching : (matcher : List ℕ → List ℕ → Bool) (rules : List TopicRule) (n : ℕ) (default : TopicAction) (msg : MqttMessage) (topic : List ℕ)
     → ltb 0 (gateOf matcher rules n default msg topic .rate) ≡ true → Reaching msg (gateOf matcher rules n default msg topic)

@@ -1,4 +1,4 @@
--- The bucket table stays sound: all free at the start, under a removal, and under the limiter's decision on a topic shorter than 65,536 bytes. A message of a held
+-- The bucket table stays sound: all free at the start, under a removal, and under the limiter's decision on a topic. A message of a held
 -- identity keeps it; a newcomer's was not held. Assumes nothing.
 use mathlib.Core.Bool.{Bool, true, false, true≢false, false≢true}
 use mathlib.Core.List.{List}
@@ -11,11 +11,11 @@ use Rattle.tables.specs.Buckets.{holdsBucket, spend, made, decide, noBucket, em
 use Rattle.tables.specs.Identity.{idOf, isOf}
 use Rattle.tables.specs.declared.buckets.RateBucket.{RateBucket}
 use Rattle.tables.specs.declared.buckets.Spent.{Spent}
-use Rattle.tables.proofs.buckets.BucketLaws.{Way, filled, taken, none, way, keeps}
+use Rattle.tables.proofs.buckets.BucketLaws.{keeps}
 use Rattle.tables.proofs.buckets.StepLaws.{bucketAt, stored, first, Absent, Step, hit, put, step}
 use Rattle.laws.proofs.Lists.{each, pairs}
-use Rattle.monitor.specs.Sound.{sameId, SoundId, SoundBuckets}
-use Rattle.monitor.proofs.SoundIds.{sound-id, new-first, new-last}
+use Rattle.monitor.specs.Sound.{sameId, SoundBuckets}
+use Rattle.monitor.proofs.SoundIds.{prefix-long, new-first, new-last}
 
 -- two buckets are not both live with one identity
 abbrev Apart : RateBucket → RateBucket → Type 0
@@ -24,7 +24,7 @@ Apart a b = a .active ≡ true → b .active ≡ true → sameId (a .id) (b .id)
 -- a bucket that may stand in a sound table
 record SoundBucket (b : RateBucket) : Type 0 where
   free : b .active ≡ false → b ≡ emptyBucket
-  made : b .active ≡ true → SoundId (b .id)
+  long : length (b .id .prefix) ≡ 32
   full : b .tokens ≤ b .capacity
 
 -- all free
@@ -33,7 +33,7 @@ buckets-fresh =
     record {
       size = refl;
       free = λ i h e. getD-replicate 32 i emptyBucket noBucket h;
-      made = λ i h e. absurd (false≢true (rw (getD-replicate 32 i emptyBucket noBucket h) at e));
+      long = λ i h. rw (getD-replicate 32 i emptyBucket noBucket h);
       full = λ i h. rw (getD-replicate 32 i emptyBucket noBucket h) (omega arith);
       apart = λ i j l h e f. absurd (false≢true (rw (getD-replicate 32 j emptyBucket noBucket h) at f));
     }
@@ -48,7 +48,7 @@ module _ {T : List RateBucket} (s : SoundBuckets T) (k : ℕ) (x : RateBucket) (
       record {
         size = length-set T k x ∙ s .size;
         free = each noBucket T k x within (λ i b. i < 32 → b .active ≡ false → b ≡ emptyBucket) (λ l. b .free) (λ j n. s .free j);
-        made = each noBucket T k x within (λ i b. i < 32 → b .active ≡ true → SoundId (b .id)) (λ l. b .made) (λ j n. s .made j);
+        long = each noBucket T k x within (λ i b. i < 32 → length (b .id .prefix) ≡ 32) (λ l. b .long) (λ j n. s .long j);
         full = each noBucket T k x within (λ i b. i < 32 → b .tokens ≤ b .capacity) (λ l. b .full) (λ j n. s .full j);
         apart = pairs noBucket T k x within Apart 32 (λ i l m. before i l) after (λ i j m n. s .apart i j);
       }
@@ -57,21 +57,16 @@ module _ {T : List RateBucket} (s : SoundBuckets T) (k : ℕ) (x : RateBucket) (
 pub bucket-removed : {T : List RateBucket} → SoundBuckets T → (k : ℕ) → k < 32 → SoundBuckets (set T k emptyBucket)
 bucket-removed s k h =
     store s k emptyBucket h
-    (record { free = λ e. refl; made = λ e. absurd (false≢true e); full = omega arith })
+    (record { free = λ e. refl; long = refl; full = omega arith })
     (λ i l e f. absurd (false≢true f))
     (λ j l m e f. absurd (false≢true e))
 
--- tokens stay within the capacity
-spent-full : (b : RateBucket) (t : ℕ) {s : Spent} → Way b t s → b .tokens ≤ b .capacity → s .bucket .tokens ≤ s .bucket .capacity
-spent-full b t (filled k p e z) h = omega arith
-spent-full b t (taken p z) h = omega arith
-spent-full b t (none p z) h = h
-
+-- a new bucket has at most its rate
 first-full : (ok : Bool) (rate : ℕ) → first ok rate ≤ rate
 first-full true rate = omega arith
 first-full false rate = omega arith
 
-module _ (t : List ℕ) (short : length t < 65536) (rate now : ℕ) where
+module _ (t : List ℕ) (rate now : ℕ) where
   -- a live bucket that does not hold the identity answers to another
   away : {T : List RateBucket} → Absent (idOf t) T → (j : ℕ) → bucketAt T j .active ≡ true → isOf (idOf t) (bucketAt T j .id) ≡ false
   unfolding holdsBucket
@@ -91,8 +86,8 @@ module _ (t : List ℕ) (short : length t < 65536) (rate now : ℕ) where
       store s i (spend b now .bucket) h
       (record {
         free = λ f. absurd (true≢false (sym live ∙ sym (k .live) ∙ f));
-        made = λ f. rw (k .id) (s .made i h live);
-        full = spent-full b now (way b now) (s .full i h);
+        long = rw (k .id) (s .long i h);
+        full = k .full (s .full i h);
       })
       (λ j m f g. rw (k .id) (s .apart j i m h f live))
       (λ j m n f g. rw (k .id) (s .apart i j m n live g))
@@ -100,7 +95,7 @@ module _ (t : List ℕ) (short : length t < 65536) (rate now : ℕ) where
       let z = s .size in
       let h : i < 32 = omega arith in
       store s i (made (idOf t) rate (first ok rate) now) h
-      (record { free = λ f. absurd (true≢false f); made = λ f. sound-id t short; full = first-full ok rate })
+      (record { free = λ f. absurd (true≢false f); long = prefix-long t; full = first-full ok rate })
       (λ j m f g. new-last (idOf t) (bucketAt T j .id) (away a j f))
       (λ j m n f g. new-first (idOf t) (bucketAt T j .id) (away a j g))
 

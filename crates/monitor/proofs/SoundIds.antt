@@ -1,5 +1,4 @@
--- Identities in tables: that of a topic shorter than 65,536 bytes is sound, and identities with equal fields are equal, so that an identity that no place answers to
--- is not held there. Assumes nothing.
+-- Identities in tables: that of a topic keeps 32 bytes, and identities with equal fields are equal, so that an identity that no place answers to is not held there. Assumes nothing.
 use mathlib.Core.Bool.{true, false, _&&_, false≢true}
 use mathlib.Core.List.{List}
 use mathlib.Core.Path.{_≡_, sym, _∙_}
@@ -15,18 +14,13 @@ use Rattle.slices.proofs.bytes.SameLaws.{same-true}
 use Rattle.tables.specs.Identity.{prefixOf, idOf, isOf}
 use Rattle.tables.specs.declared.identity.Id.{Id}
 use Rattle.tables.proofs.identity.IdentityLaws.{is-of-refl}
-use Rattle.monitor.specs.Sound.{sameId, SoundId}
+use Rattle.monitor.specs.Sound.{sameId}
 
--- the identity of a topic
-pub sound-id : (t : List ℕ) → length t < 65536 → SoundId (idOf t)
+-- the identity of a topic keeps 32 bytes
+pub prefix-long : (t : List ℕ) → length (idOf t .prefix) ≡ 32
 unfolding idOf prefixOf
-sound-id t h =
-    let e : 32 - length t ≡ 32 - min (length t) 32 = omega arith in
-    record {
-      size = omega (arith, length-append (take 32 t) (replicate (32 - length t) 0), length-take 32 t, length-replicate {A = ℕ} (32 - length t) 0);
-      kept = omega arith;
-      rest = drop-at (take 32 t) (replicate (32 - length t) 0) (min (length t) 32) (omega (arith, length-take 32 t)) ∙ (rw e);
-    }
+prefix-long t =
+    omega (arith, length-append (take 32 t) (replicate (32 - length t) 0), length-take 32 t, length-replicate {A = ℕ} (32 - length t) 0)
 
 -- an identity by its fields
 abbrev fields : Id → Id

@@ -1,5 +1,5 @@
 -- An inspection hands out a sound state where it was given one, under any matcher: what each table is asked to store keeps it sound, and no id that is counted on is
--- 0. The topic used has at most 128 bytes. Assumes nothing.
+-- 0. Assumes nothing.
 use mathlib.Core.Bool.{Bool, true, false}
 use mathlib.Core.List.{List}
 use mathlib.Core.Path.{_≡_}
@@ -25,7 +25,7 @@ use Rattle.monitor.proofs.state.KeptFormed.{applied-formed}
 use Rattle.monitor.proofs.SoundBuckets.{buckets-after}
 use Rattle.monitor.proofs.SoundTrackers.{trackers-after}
 use Rattle.monitor.proofs.SoundWindows.{windows-after}
-use Rattle.monitor.proofs.StoreLaws.{stored-or-not}
+use Rattle.monitor.proofs.inspection.ApplyLaws.{stored-or-not}
 
 -- the next id is never 0
 id-after : (id : ℕ) → idAfter id ≡ 0 → ⊥
@@ -39,14 +39,14 @@ all-ids : (hash : List ℕ) (t id total : ℕ) (kinds : List ℕ) → (id ≡ 0 
 unfolding raiseAll
 all-ids hash t id total kinds n = fold-keeps (raise hash t) (λ a. a .«next_id» ≡ 0 → ⊥) (raise-id hash t) {h = noneRaised id total} kinds n
 
-module _ {m : MqttMonitor} (s : Sound m) (msg : MqttMessage) (topic : List ℕ) (short : length topic < 65536) where
+module _ {m : MqttMonitor} (s : Sound m) (msg : MqttMessage) (topic : List ℕ) where
   -- the tables with what they are asked to store
-  seen-sound : let d = seenOf (m .«client_hashes») (m .«connect_storm_threshold») (m .«connect_storm_window_us») msg topic in
-      SoundWindows (storedAt 16 (m .«client_hashes») (d .at) (d .entry))
+  seen-sound : let d = seenOf (m .«connect_windows») (m .«connect_storm_threshold») (m .«connect_storm_window_us») msg topic in
+      SoundWindows (storedAt 16 (m .«connect_windows») (d .at) (d .entry))
   unfolding seenOf
   seen-sound =
       by (eqb (typeNumber (msg .«packet_type»)) 1)
-      (λ e. rw e (stored-or-not SoundWindows 16 (m .«client_hashes») _ _ (s .windows-sound) (windows-after (clientHashes topic) _ _ _ (s .windows-sound))))
+      (λ e. rw e (stored-or-not SoundWindows 16 (m .«connect_windows») _ _ (s .windows-sound) (windows-after (clientHashes topic) _ _ _ (s .windows-sound))))
       (λ e. rw e (s .windows-sound))
 
   module _ (rate t : ℕ) where
@@ -54,14 +54,14 @@ module _ {m : MqttMonitor} (s : Sound m) (msg : MqttMessage) (topic : List ℕ) 
     unfolding spentOf
     spent-sound =
         by (ltb 0 rate)
-        (λ e. rw e (stored-or-not SoundBuckets 32 (m .«rate_buckets») _ _ (s .buckets-sound) (buckets-after topic short rate t (s .buckets-sound))))
+        (λ e. rw e (stored-or-not SoundBuckets 32 (m .«rate_buckets») _ _ (s .buckets-sound) (buckets-after topic rate t (s .buckets-sound))))
         (λ e. rw e (s .buckets-sound))
 
   module _ (size t : ℕ) where
     fed-sound : (feeds : Bool)
         → SoundTrackers (storedAt 16 (m .«ewma_trackers») (fedOf (m .«ewma_trackers») feeds (idOf topic) size t .at) (fedOf (m .«ewma_trackers») feeds (idOf topic) size t .tracker))
     unfolding fedOf
-    fed-sound true = stored-or-not SoundTrackers 16 (m .«ewma_trackers») _ _ (s .trackers-sound) (trackers-after topic short size t (s .trackers-sound))
+    fed-sound true = stored-or-not SoundTrackers 16 (m .«ewma_trackers») _ _ (s .trackers-sound) (trackers-after topic size t (s .trackers-sound))
     fed-sound false = s .trackers-sound
 
   -- a plan applied
@@ -88,7 +88,5 @@ pub sound-inspect : (matcher : List ℕ → List ℕ → Bool) {m : MqttMonitor}
 unfolding inspectWith
 sound-inspect matcher {m} s msg topic payload =
     by (eqb (inspectRefusal m msg topic payload) 0)
-    (λ e.
-    let short : length (take (usedTopic msg) topic) < 65536 = omega (arith, length-take (usedTopic msg) topic) in
-    rw e (applied-sound s msg (take (usedTopic msg) topic) short matcher (take (usedPayload msg) payload)))
+    (λ e. rw e (applied-sound s msg (take (usedTopic msg) topic) matcher (take (usedPayload msg) payload)))
     (λ e. rw e s)

@@ -1,4 +1,4 @@
--- The tracker table stays sound: all free at the start, under a removal, and under a fed message of a topic shorter than 65,536 bytes. A message of a held identity
+-- The tracker table stays sound: all free at the start, under a removal, and under a fed message of a topic. A message of a held identity
 -- keeps it; a newcomer's was not held. Assumes nothing.
 use mathlib.Core.Bool.{true, false, true≢false, false≢true}
 use mathlib.Core.List.{List}
@@ -15,9 +15,9 @@ use Rattle.tables.specs.declared.trackers.TrackerDecision.{TrackerDecision}
 use Rattle.tables.proofs.ScanLaws.{seat-lt}
 use Rattle.tables.proofs.trackers.TrackerLaws.{isFree, lastUpdate}
 use Rattle.laws.proofs.Lists.{each, pairs}
-use Rattle.monitor.specs.Sound.{sameId, SoundId, SoundTrackers}
-use Rattle.monitor.proofs.SoundIds.{sound-id, new-first, new-last}
-use Rattle.monitor.proofs.StoreLaws.{looked-up}
+use Rattle.monitor.specs.Sound.{sameId, SoundTrackers}
+use Rattle.monitor.proofs.SoundIds.{prefix-long, new-first, new-last}
+use Rattle.tables.proofs.LookupLaws.{looked-up}
 
 -- two trackers are not both live with one identity
 abbrev Apart : EwmaTracker → EwmaTracker → Type 0
@@ -26,7 +26,7 @@ Apart a b = a .active ≡ true → b .active ≡ true → sameId (a .id) (b .id)
 -- a tracker that may stand in a sound table
 record SoundTracker (k : EwmaTracker) : Type 0 where
   free : k .active ≡ false → k ≡ emptyTracker
-  made : k .active ≡ true → SoundId (k .id)
+  long : length (k .id .prefix) ≡ 32
 
 -- all free
 pub trackers-fresh : SoundTrackers (replicate 16 emptyTracker)
@@ -34,7 +34,7 @@ trackers-fresh =
     record {
       size = refl;
       free = λ i h e. getD-replicate 16 i emptyTracker noTracker h;
-      made = λ i h e. absurd (false≢true (rw (getD-replicate 16 i emptyTracker noTracker h) at e));
+      long = λ i h. rw (getD-replicate 16 i emptyTracker noTracker h);
       apart = λ i j l h e f. absurd (false≢true (rw (getD-replicate 16 j emptyTracker noTracker h) at f));
     }
 
@@ -49,7 +49,7 @@ module _ {T : List EwmaTracker} (s : SoundTrackers T) (k : ℕ) (x : EwmaTracker
       record {
         size = length-set T k x ∙ s .size;
         free = each noTracker T k x within (λ i k. i < 16 → k .active ≡ false → k ≡ emptyTracker) (λ l. b .free) (λ j n. s .free j);
-        made = each noTracker T k x within (λ i k. i < 16 → k .active ≡ true → SoundId (k .id)) (λ l. b .made) (λ j n. s .made j);
+        long = each noTracker T k x within (λ i k. i < 16 → length (k .id .prefix) ≡ 32) (λ l. b .long) (λ j n. s .long j);
         apart = pairs noTracker T k x within Apart 16 (λ i l m. before i l) after (λ i j m n. s .apart i j);
       }
 
@@ -57,11 +57,11 @@ module _ {T : List EwmaTracker} (s : SoundTrackers T) (k : ℕ) (x : EwmaTracker
 pub tracker-removed : {T : List EwmaTracker} → SoundTrackers T → (k : ℕ) → k < 16 → SoundTrackers (set T k emptyTracker)
 tracker-removed s k h =
     store s k emptyTracker h
-    (record { free = λ e. refl; made = λ e. absurd (false≢true e) })
+    (record { free = λ e. refl; long = refl })
     (λ i l e f. absurd (false≢true f))
     (λ j l m e f. absurd (false≢true e))
 
-module _ (t : List ℕ) (short : length t < 65536) (size now : ℕ) {T : List EwmaTracker} (s : SoundTrackers T) where
+module _ (t : List ℕ) (size now : ℕ) {T : List EwmaTracker} (s : SoundTrackers T) where
   -- the table with a tracker stored
   abbrev Stays : TrackerDecision → Type 0
   Stays d = SoundTrackers (set T (d .at) (d .tracker))
@@ -74,7 +74,7 @@ module _ (t : List ℕ) (short : length t < 65536) (size now : ℕ) {T : List Ew
       let k = getD T i noTracker in
       let live = both (k .active) (isOf (idOf t) (k .id)) e .0 in
       store s i (fed k size now) h
-      (record { free = λ f. absurd (true≢false (sym live ∙ f)); made = s .made i h })
+      (record { free = λ f. absurd (true≢false (sym live ∙ f)); long = s .long i h })
       (λ j m. s .apart j i m h)
       (λ j m. s .apart i j m)
 
@@ -86,7 +86,7 @@ module _ (t : List ℕ) (short : length t < 65536) (size now : ℕ) {T : List Ew
       let away : (j : ℕ) → j < 16 → getD T j noTracker .active ≡ true → isOf (idOf t) (getD T j noTracker .id) ≡ false =
       λ j h e. rw e at (none j (omega arith)) in
       store s (seat isFree lastUpdate T) (fed (freshTracker (idOf t)) size now) (omega arith)
-      (record { free = λ f. absurd (true≢false f); made = λ f. sound-id t short })
+      (record { free = λ f. absurd (true≢false f); long = prefix-long t })
       (λ j m f g. new-last (idOf t) (getD T j noTracker .id) (away j (omega arith) f))
       (λ j m n f g. new-first (idOf t) (getD T j noTracker .id) (away j n g))
 

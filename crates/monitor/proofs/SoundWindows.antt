@@ -1,5 +1,4 @@
--- The table of CONNECT windows stays sound: all free at the start, and under a CONNECT. A stamp goes to the place past the last until 16 are held, so that zeros
--- stay behind it; a client's own window keeps its hashes; a newcomer's were not held. Assumes nothing.
+-- The table of CONNECT windows stays sound: all free at the start, and under a CONNECT. A client's own window keeps its hashes; a newcomer's were not held. Assumes nothing.
 use mathlib.Core.Bool.{true, false, _&&_, true≢false, false≢true}
 use mathlib.Core.List.{List}
 use mathlib.Core.Path.{_≡_, refl, sym, _∙_}
@@ -20,49 +19,11 @@ use Rattle.tables.proofs.ScanLaws.{seat-lt}
 use Rattle.tables.proofs.windows.WindowLaws.{isFree, lastSeen}
 use Rattle.laws.proofs.Lists.{each, pairs}
 use Rattle.monitor.specs.Sound.{sameClient, SoundWindows}
-use Rattle.monitor.proofs.StoreLaws.{looked-up}
+use Rattle.tables.proofs.LookupLaws.{looked-up}
 
 -- two windows are not both live with one client
 abbrev Apart : ClientStormEntry → ClientStormEntry → Type 0
 Apart a b = a .active ≡ true → b .active ≡ true → sameClient a b ≡ false
-
--- a ring of 16 stamps: those past the count are zero, and the next goes behind the last
-record Ring (e : ClientStormEntry) : Type 0 where
-  long : length (e .timestamps) ≡ 16
-  next : e .«write_idx» < 16
-  ring : e .count < 16 → e .«write_idx» ≡ e .count
-  rest : drop (e .count) (e .timestamps) ≡ replicate (16 - e .count) 0
-
--- one stamp more
-module _ (e : ClientStormEntry) (t : ℕ) (r : Ring e) where
-  -- there is room: it goes behind the last
-  rest-room : e .count < 16 → drop (e .count + 1) (set (e .timestamps) (e .«write_idx» % 16) t) ≡ replicate (16 - (e .count + 1)) 0
-  rest-room h =
-      let w = r .ring h in
-      let p : e .«write_idx» % 16 ≡ e .count = omega arith in
-      let n : 16 - e .count ≡ suc (16 - (e .count + 1)) = omega arith in
-      rw (p, drop-set-lt (e .count + 1) (e .timestamps) (e .count) t (omega arith), ← drop-drop 1 (e .count) (e .timestamps), r .rest, n)
-
-  -- there is none: nothing is behind the count
-  rest-full : 16 ≤ e .count → drop (e .count) (set (e .timestamps) (e .«write_idx» % 16) t) ≡ replicate (16 - e .count) 0
-  rest-full h =
-      let l = r .long in
-      let n : 16 - e .count ≡ 0 = omega arith in
-      rw n
-      (drop-of-length-le (set (e .timestamps) (e .«write_idx» % 16) t) {i = e .count} (omega (arith, length-set (e .timestamps) (e .«write_idx» % 16) t)))
-
-  recorded-ring : Ring (recorded e t)
-  unfolding recorded
-  recorded-ring =
-      record {
-        long = length-set (e .timestamps) (e .«write_idx» % 16) t ∙ r .long;
-        next = omega arith;
-        ring =
-            by (ltb (e .count) 16)
-            (λ c. rw c (λ h. let w = r .ring (omega arith) in omega arith))
-            (λ c. rw c (λ h. absurd (omega (arith, ltb-false (e .count) 16 c))));
-        rest = by (ltb (e .count) 16) (λ c. rw c (rest-room (ltb-true _ _ c))) (λ c. rw c (rest-full (ltb-false _ _ c)));
-      }
 
 -- all free
 pub windows-fresh : SoundWindows (replicate 16 emptyWindow)
@@ -71,33 +32,23 @@ windows-fresh =
       size = refl;
       free = λ i h e. getD-replicate 16 i emptyWindow noWindow h;
       long = λ i h. rw (getD-replicate 16 i emptyWindow noWindow h);
-      next = λ i h. rw (getD-replicate 16 i emptyWindow noWindow h) (omega arith);
-      ring = λ i h. rw (getD-replicate 16 i emptyWindow noWindow h) (λ c. refl);
-      rest = λ i h. rw (getD-replicate 16 i emptyWindow noWindow h);
       apart = λ i j l h e f. absurd (false≢true (rw (getD-replicate 16 j emptyWindow noWindow h) at f));
     }
 
 module _ {T : List ClientStormEntry} (s : SoundWindows T) where
-  ring-at : (i : ℕ) → i < 16 → Ring (getD T i noWindow)
-  ring-at i h = record { long = s .long i h; next = s .next i h; ring = s .ring i h; rest = s .rest i h }
-
-  -- a live window stored that is a ring and apart from the others
+  -- a live window stored that is long enough and apart from the others
   module _ (k : ℕ) (x : ClientStormEntry) (h : k < 16) where
     within : k < length T
     within = let e = s .size in omega arith
 
-    store : x .active ≡ true → Ring x → ((i : ℕ) → i < k → Apart (getD T i noWindow) x) → ((j : ℕ) → k < j → j < 16 → Apart x (getD T j noWindow))
+    store : x .active ≡ true → length (x .timestamps) ≡ 16 → ((i : ℕ) → i < k → Apart (getD T i noWindow) x) → ((j : ℕ) → k < j → j < 16 → Apart x (getD T j noWindow))
         → SoundWindows (set T k x)
-    store live b before after =
+    store live long before after =
         record {
           size = length-set T k x ∙ s .size;
           free =
               each noWindow T k x within (λ i e. i < 16 → e .active ≡ false → e ≡ emptyWindow) (λ l f. absurd (true≢false (sym live ∙ f))) (λ j n. s .free j);
-          long = each noWindow T k x within (λ i e. i < 16 → length (e .timestamps) ≡ 16) (λ l. b .long) (λ j n. s .long j);
-          next = each noWindow T k x within (λ i e. i < 16 → e .«write_idx» < 16) (λ l. b .next) (λ j n. s .next j);
-          ring = each noWindow T k x within (λ i e. i < 16 → e .count < 16 → e .«write_idx» ≡ e .count) (λ l. b .ring) (λ j n. s .ring j);
-          rest =
-              each noWindow T k x within (λ i e. i < 16 → drop (e .count) (e .timestamps) ≡ replicate (16 - e .count) 0) (λ l. b .rest) (λ j n. s .rest j);
+          long = each noWindow T k x within (λ i e. i < 16 → length (e .timestamps) ≡ 16) (λ l. long) (λ j n. s .long j);
           apart = pairs noWindow T k x within Apart 16 (λ i l m. before i l) after (λ i j m n. s .apart i j);
         }
 
@@ -124,7 +75,7 @@ module _ (c : ClientHashes) (t threshold window : ℕ) {T : List ClientStormEntr
       let h : i < 16 = omega arith in
       let e = getD T i noWindow in
       let live = both (e .active) (eqb (e .«client_hash») (c .hash)) (both (e .active && eqb (e .«client_hash») (c .hash)) (eqb (e .«client_hash2») (c .hash2)) p .0) .0 in
-      store s i (recorded e t) h live (recorded-ring e t (ring-at s i h)) (λ j m. s .apart j i m h) (λ j m. s .apart i j m)
+      store s i (recorded e t) h live (length-set (e .timestamps) _ t ∙ s .long i h) (λ j m. s .apart j i m h) (λ j m. s .apart i j m)
 
   new : ((j : ℕ) → j < length T → holdsClient c (getD T j noWindow) ≡ false)
       → Stays (connectAt (seat isFree lastSeen T) (freshWindow c) t threshold window)
@@ -135,7 +86,7 @@ module _ (c : ClientHashes) (t threshold window : ℕ) {T : List ClientStormEntr
       let x = recorded (freshWindow c) t in
       let away : (j : ℕ) → j < 16 → getD T j noWindow .active ≡ true → sameClient (getD T j noWindow) x ≡ false = λ j h e. rw e at (none j (omega arith)) in
       store s (seat isFree lastSeen T) x (omega arith) refl
-      (recorded-ring (freshWindow c) t (record { long = refl; next = omega arith; ring = λ h. refl; rest = refl }))
+      (length-set (freshWindow c .timestamps) 0 t)
       (λ j m f g. away j (omega arith) f)
       (λ j m n f g. swapped (getD T j noWindow) x (away j n g))
 

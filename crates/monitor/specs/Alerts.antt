@@ -49,11 +49,6 @@ denies k = eqb k 1 || eqb k 2 || eqb k 3 || eqb k 5 || eqb k 6 || eqb k 9 || eqb
 unfoldable pub kindsAmong : ℕ → List SecurityAlert → List ℕ
 kindsAmong n alerts = map (λ a. a .«source_id») (take n alerts)
 
--- some element of a list passes a test
-unfoldable pub some : {A : Type 0} → (A → Bool) → List A → Bool
-some p [] = false
-some p (x ∷ xs) = p x || some p xs
-
 -- ids count on and skip 0 at the wrap
 abbrev pub idAfter : ℕ → ℕ
 idAfter id = cond (eqb ((id + 1) % 2 ^ 64) 0) 1 ((id + 1) % 2 ^ 64)

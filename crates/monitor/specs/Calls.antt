@@ -8,7 +8,7 @@ use lib.Dec.{ltb}
 use lib.ListN.{getD, take, drop, set, replicate}
 use Rattle.tables.specs.Identity.{idOf}
 use Rattle.tables.specs.Buckets.{emptyBucket, removedBucket}
-use Rattle.tables.specs.Rules.{shadowCount, emptyRule, noRule}
+use Rattle.tables.specs.Rules.{shadowCount, emptyRule, noRule, rulePlan}
 use Rattle.tables.specs.Trackers.{emptyTracker, removedTracker}
 use Rattle.tables.specs.Windows.{emptyWindow}
 use Rattle.tables.specs.declared.rules.QosPolicy.{QosPolicy}
@@ -28,7 +28,7 @@ fresh default =
       rules = replicate 32 emptyRule;
       «rule_count» = 0;
       «rate_buckets» = replicate 32 emptyBucket;
-      «client_hashes» = replicate 16 emptyWindow;
+      «connect_windows» = replicate 16 emptyWindow;
       «connect_storm_threshold» = 5;
       «connect_storm_window_us» = 60000000;
       «default_action» = default;
@@ -93,13 +93,13 @@ setStorm m threshold window =
 unfoldable pub removeBucket : MqttMonitor → List ℕ → Called
 removeBucket m topic =
     ended (tested m (cond (ltb (removedBucket (idOf topic) (m .«rate_buckets»)) 32) 0 7)) m 0
-    (withTables m (set (m .«rate_buckets») (removedBucket (idOf topic) (m .«rate_buckets»)) emptyBucket) (m .«client_hashes») (m .«ewma_trackers»))
+    (withTables m (set (m .«rate_buckets») (removedBucket (idOf topic) (m .«rate_buckets»)) emptyBucket) (m .«connect_windows») (m .«ewma_trackers»))
 
 -- `remove_ewma_tracker`: 7 where it is not held; its place becomes free
 unfoldable pub removeTracker : MqttMonitor → List ℕ → Called
 removeTracker m topic =
     ended (tested m (cond (ltb (removedTracker (idOf topic) (m .«ewma_trackers»)) 16) 0 7)) m 0
-    (withTables m (m .«rate_buckets») (m .«client_hashes») (set (m .«ewma_trackers») (removedTracker (idOf topic) (m .«ewma_trackers»)) emptyTracker))
+    (withTables m (m .«rate_buckets») (m .«connect_windows») (set (m .«ewma_trackers») (removedTracker (idOf topic) (m .«ewma_trackers»)) emptyTracker))
 
 -- `reset_state` keeps rules, default and CONNECT settings
 unfoldable pub resetState : MqttMonitor → Called

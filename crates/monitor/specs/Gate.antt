@@ -53,8 +53,8 @@ abbrev pub deniedBy : ℕ → Bool → Ruling → Gate
 deniedBy denial broad r = record { stage = stageOf r; denial = denial; broad = broad; qos = false; rate = 0; feeds = false }
 
 -- not denied by rules: QoS policy, then limiter and tracker, which only a Publish asks
-abbrev pub passes : MqttMessage → Bool → Ruling → Gate
-passes msg broad r =
+abbrev pub goesOn : MqttMessage → Bool → Ruling → Gate
+goesOn msg broad r =
     record {
       stage = stageOf r;
       denial = 0;
@@ -71,7 +71,7 @@ gateAfter msg topic r =
     (deniedBy 10 (isBroad topic) r)
     (cond (isBlock (r .action))
     (deniedBy 3 (eqb (typeNumber (msg .«packet_type»)) 8 && isBroad topic) r)
-    (passes msg (eqb (typeNumber (msg .«packet_type»)) 8 && isBroad topic) r))
+    (goesOn msg (eqb (typeNumber (msg .«packet_type»)) 8 && isBroad topic) r))
 
 -- types whose topic is looked at: Publish, Subscribe, Unsubscribe
 abbrev pub isTopical : ℕ → Bool

@@ -5,8 +5,10 @@ pub mod Inspect
 pub mod Message
 pub mod Plan
 pub mod Prepared
+pub mod Ranged
 pub mod Reached
 pub mod Runs
 pub mod Sound
 pub mod State
 pub mod Told
+pub mod Unbroken

@@ -84,7 +84,7 @@ gateIn matcher m msg topic = gateOf matcher (m .rules) (m .«rule_count») (m .�
 unfoldable pub planOf : (List ℕ → List ℕ → Bool) → MqttMonitor → MqttMessage → List ℕ → List ℕ → Plan
 planOf matcher m msg topic payload =
     planFrom (m .«next_alert_id») (m .«total_alerts») msg payload (gateIn matcher m msg topic)
-    (seenOf (m .«client_hashes») (m .«connect_storm_threshold») (m .«connect_storm_window_us») msg topic)
+    (seenOf (m .«connect_windows») (m .«connect_storm_threshold») (m .«connect_storm_window_us») msg topic)
     (spentOf (m .«rate_buckets») (gateIn matcher m msg topic .rate) (idOf topic) (msg .«timestamp_us»))
     (fedOf (m .«ewma_trackers») (gateIn matcher m msg topic .feeds) (idOf topic) (msg .«payload_len») (msg .«timestamp_us»))
 

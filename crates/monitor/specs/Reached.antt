@@ -9,6 +9,7 @@ use Rattle.tables.specs.declared.rules.TopicAction.{TopicAction}
 use Rattle.monitor.specs.Calls.{fresh, addRule, removeRule, swapRules, clearRules, setStorm, removeBucket, removeTracker, resetState}
 use Rattle.monitor.specs.Inspect.{inspectWith}
 use Rattle.monitor.specs.Sound.{Sound}
+use Rattle.monitor.specs.Unbroken.{Unbroken}
 use Rattle.monitor.specs.declared.message.MqttMessage.{MqttMessage}
 use Rattle.monitor.specs.declared.state.MqttMonitor.{MqttMonitor}
 
@@ -32,3 +33,7 @@ pub data Reached (matcher : List ℕ → List ℕ → Bool) : MqttMonitor → Ty
 -- each of them is sound (specs/Sound.antt), which is more than number 10 tests: so that number is never met in one
 abbrev pub SoundAlways : Type 0
 SoundAlways = (matcher : List ℕ → List ℕ → Bool) (m : MqttMonitor) → Reached matcher m → Sound m
+
+-- and so far without a load, each is the monitor's own making too (specs/Unbroken.antt)
+abbrev pub UnbrokenAlways : Type 0
+UnbrokenAlways = (matcher : List ℕ → List ℕ → Bool) (m : MqttMonitor) → Reached matcher m → Unbroken m

@@ -1,5 +1,6 @@
 -- What holds of every state that calls hand out, beyond number 10's test (document 01, "Numbers handed back": "reached from a constructor or a load by calls alone").
--- Later texts stand on it: free places and unused bytes are all zero, and nothing is held twice.
+-- It is what a saved text needs, and no more (requests C-13, C-23): sizes, free places and unused bytes all zero, nothing held twice, settings in their ranges. A state that was loaded from a text
+-- can have it too; what only a history without a load has is in Unbroken.antt.
 -- Assumes nothing.
 use mathlib.Core.Path.{_≡_}
 use mathlib.Core.Bool.{Bool, true, false, _&&_}
@@ -30,12 +31,6 @@ sameId a b =
 unfoldable pub sameClient : ClientStormEntry → ClientStormEntry → Bool
 sameClient a b = eqb (a .«client_hash») (b .«client_hash») && eqb (a .«client_hash2») (b .«client_hash2»)
 
--- an identity as it is made of a topic: it keeps as many of the first bytes as there are up to 32, zeros after them
-pub record SoundId (id : Id) : Type 0 where
-  pub size : length (id .prefix) ≡ 32
-  pub kept : id .«prefix_len» ≡ min (id .len) 32
-  pub rest : drop (id .«prefix_len») (id .prefix) ≡ replicate (32 - id .«prefix_len») 0
-
 -- the rules: those past the count are empty, patterns have zeros after them, no pattern is held twice
 pub record SoundRules (rules : List TopicRule) (n : ℕ) : Type 0 where
   pub size : length rules ≡ 32
@@ -44,34 +39,30 @@ pub record SoundRules (rules : List TopicRule) (n : ℕ) : Type 0 where
   pub rest : (i : ℕ) → i < 32 → drop (getD rules i noRule .«pattern_len») (getD rules i noRule .pattern) ≡ replicate (64 - getD rules i noRule .«pattern_len») 0
   pub apart : (i j : ℕ) → i < j → j < n → same (patternOf (getD rules i noRule)) (patternOf (getD rules j noRule)) ≡ false
 
--- the buckets: free places are empty, tokens are at most the capacity, no identity is held twice
+-- the buckets: free places are empty, prefixes have all 32 bytes, tokens are at most the capacity, no identity is held twice
 pub record SoundBuckets (bs : List RateBucket) : Type 0 where
   pub size : length bs ≡ 32
   pub free : (i : ℕ) → i < 32 → getD bs i noBucket .active ≡ false → getD bs i noBucket ≡ emptyBucket
-  pub made : (i : ℕ) → i < 32 → getD bs i noBucket .active ≡ true → SoundId (getD bs i noBucket .id)
+  pub long : (i : ℕ) → i < 32 → length (getD bs i noBucket .id .prefix) ≡ 32
   pub full : (i : ℕ) → i < 32 → getD bs i noBucket .tokens ≤ getD bs i noBucket .capacity
   pub apart :
       (i j : ℕ) → i < j → j < 32 → getD bs i noBucket .active ≡ true → getD bs j noBucket .active ≡ true
       → sameId (getD bs i noBucket .id) (getD bs j noBucket .id) ≡ false
 
--- the CONNECT windows: free places are empty, stamps past the count are zero, no client is held twice
+-- the CONNECT windows: free places are empty, all 16 stamps are there, no client is held twice
 pub record SoundWindows (cs : List ClientStormEntry) : Type 0 where
   pub size : length cs ≡ 16
   pub free : (i : ℕ) → i < 16 → getD cs i noWindow .active ≡ false → getD cs i noWindow ≡ emptyWindow
   pub long : (i : ℕ) → i < 16 → length (getD cs i noWindow .timestamps) ≡ 16
-  pub next : (i : ℕ) → i < 16 → getD cs i noWindow .«write_idx» < 16
-  pub ring : (i : ℕ) → i < 16 → getD cs i noWindow .count < 16 → getD cs i noWindow .«write_idx» ≡ getD cs i noWindow .count
-  pub rest :
-      (i : ℕ) → i < 16 → drop (getD cs i noWindow .count) (getD cs i noWindow .timestamps) ≡ replicate (16 - getD cs i noWindow .count) 0
   pub apart :
       (i j : ℕ) → i < j → j < 16 → getD cs i noWindow .active ≡ true → getD cs j noWindow .active ≡ true
       → sameClient (getD cs i noWindow) (getD cs j noWindow) ≡ false
 
--- the payload trackers: free places are empty, no identity is held twice
+-- the payload trackers: free places are empty, prefixes have all 32 bytes, no identity is held twice
 pub record SoundTrackers (ks : List EwmaTracker) : Type 0 where
   pub size : length ks ≡ 16
   pub free : (i : ℕ) → i < 16 → getD ks i noTracker .active ≡ false → getD ks i noTracker ≡ emptyTracker
-  pub made : (i : ℕ) → i < 16 → getD ks i noTracker .active ≡ true → SoundId (getD ks i noTracker .id)
+  pub long : (i : ℕ) → i < 16 → length (getD ks i noTracker .id .prefix) ≡ 32
   pub apart :
       (i j : ℕ) → i < j → j < 16 → getD ks i noTracker .active ≡ true → getD ks j noTracker .active ≡ true
       → sameId (getD ks i noTracker .id) (getD ks j noTracker .id) ≡ false
@@ -81,7 +72,7 @@ pub record Sound (m : MqttMonitor) : Type 0 where
   pub formed : wellFormed m ≡ true
   pub rules-sound : SoundRules (m .rules) (m .«rule_count»)
   pub buckets-sound : SoundBuckets (m .«rate_buckets»)
-  pub windows-sound : SoundWindows (m .«client_hashes»)
+  pub windows-sound : SoundWindows (m .«connect_windows»)
   pub trackers-sound : SoundTrackers (m .«ewma_trackers»)
   pub threshold-low : 2 ≤ m .«connect_storm_threshold»
   pub threshold-high : m .«connect_storm_threshold» ≤ 16

@@ -5,6 +5,7 @@ use mathlib.Core.List.{List, [], _∷_}
 use Prim.Native.Nat.{ℕ}
 use lib.Dec.{eqb, leb}
 use lib.ListN.{take}
+use Rattle.laws.specs.Lists.{every}
 use Rattle.tables.specs.declared.buckets.RateBucket.{RateBucket}
 use Rattle.tables.specs.declared.rules.TopicRule.{TopicRule}
 use Rattle.tables.specs.declared.trackers.EwmaTracker.{EwmaTracker}
@@ -18,17 +19,12 @@ use Rattle.monitor.specs.declared.state.Outcome.{Outcome}
 use Rattle.monitor.specs.declared.state.Outcome.the-variants.{Done, Refused}
 use Rattle.monitor.specs.declared.state.Called.{Called}
 
--- every element of a list passes a test
-unfoldable pub every : {A : Type 0} → (A → Bool) → List A → Bool
-every p [] = true
-every p (x ∷ xs) = p x && every p xs
-
 -- not a state that no call hands out: at most 32 rules, each live with a pattern that `add_rule` takes, and no live record with a prefix length over 32
 -- or a window count over 16
 unfoldable pub wellFormed : MqttMonitor → Bool
 wellFormed m =
     leb (m .«rule_count») 32 && every ruleFine (take (m .«rule_count») (m .rules)) && every bucketFine (m .«rate_buckets»)
-    && every windowFine (m .«client_hashes») && every trackerFine (m .«ewma_trackers»)
+    && every windowFine (m .«connect_windows») && every trackerFine (m .«ewma_trackers»)
 
 -- the state with other rules
 abbrev pub withRules : MqttMonitor → List TopicRule → ℕ → MqttMonitor
@@ -37,7 +33,7 @@ withRules m rules n =
       rules = rules;
       «rule_count» = n;
       «rate_buckets» = m .«rate_buckets»;
-      «client_hashes» = m .«client_hashes»;
+      «connect_windows» = m .«connect_windows»;
       «connect_storm_threshold» = m .«connect_storm_threshold»;
       «connect_storm_window_us» = m .«connect_storm_window_us»;
       «default_action» = m .«default_action»;
@@ -54,7 +50,7 @@ withSettings m threshold window =
       rules = m .rules;
       «rule_count» = m .«rule_count»;
       «rate_buckets» = m .«rate_buckets»;
-      «client_hashes» = m .«client_hashes»;
+      «connect_windows» = m .«connect_windows»;
       «connect_storm_threshold» = threshold;
       «connect_storm_window_us» = window;
       «default_action» = m .«default_action»;
@@ -71,7 +67,7 @@ withTables m buckets clients trackers =
       rules = m .rules;
       «rule_count» = m .«rule_count»;
       «rate_buckets» = buckets;
-      «client_hashes» = clients;
+      «connect_windows» = clients;
       «connect_storm_threshold» = m .«connect_storm_threshold»;
       «connect_storm_window_us» = m .«connect_storm_window_us»;
       «default_action» = m .«default_action»;
@@ -88,7 +84,7 @@ withCounters m id inspected alerts =
       rules = m .rules;
       «rule_count» = m .«rule_count»;
       «rate_buckets» = m .«rate_buckets»;
-      «client_hashes» = m .«client_hashes»;
+      «connect_windows» = m .«connect_windows»;
       «connect_storm_threshold» = m .«connect_storm_threshold»;
       «connect_storm_window_us» = m .«connect_storm_window_us»;
       «default_action» = m .«default_action»;

@@ -26,7 +26,7 @@ fn fresh(default_action: TopicAction) -> MqttMonitor
         rules: free_rules(),
         rule_count: 0,
         rate_buckets: free_buckets(),
-        client_hashes: free_windows(),
+        connect_windows: free_windows(),
         connect_storm_threshold: 5,
         connect_storm_window_us: 60_000_000,
         default_action: default_action,
@@ -151,7 +151,7 @@ pub fn reset_state(m: MqttMonitor) -> Called
     let trackers = free_trackers();
     let mut next = m;
     next.rate_buckets = buckets;
-    next.client_hashes = clients;
+    next.connect_windows = clients;
     next.ewma_trackers = trackers;
     next.next_alert_id = 1;
     next.total_inspected = 0;

@@ -13,10 +13,10 @@ use topics::names::starts_with_dollar;
 ghost use mathlib.Core.Bool.{cond, not, _&&_};
 ghost use mathlib.Core.Path.{_≡_};
 ghost use lib.Dec.{eqb, ltb};
-ghost use Rattle.topics.specs.Matching.{portMatches};
+ghost use Rattle.tables.specs.Rules.{ruleMatches};
 ghost use Rattle.topics.specs.Names.{isBroad, startsWithDollar, badPublish};
 ghost use Rattle.monitor.specs.Message.{typeNumber};
-ghost use Rattle.monitor.specs.Gate.{isBlock, ruledBy, ruledByDefault, rulingOf, stageOf, endsEarly, deniedBy, passes, gateAfter, isTopical, gateOf};
+ghost use Rattle.monitor.specs.Gate.{isBlock, ruledBy, ruledByDefault, rulingOf, stageOf, endsEarly, deniedBy, goesOn, gateAfter, isTopical, gateOf};
 
 // How far a message came in the order of one inspection: it ended before rule choice, no rule took its topic, or the rule at a place did.
 pub enum Stage {
@@ -72,7 +72,7 @@ fn ruled_by_default(action: TopicAction, at: usize) -> Ruling
 
 // The first matching rule, else the default. The search hands over where it finds: a second read of the table would copy it.
 fn rule_for(rules: [TopicRule; 32], count: u16, default_action: TopicAction, topic: &[u8]) -> Ruling
-    ensures { λ r. ⌜ r ≡ rulingOf portMatches rules count «default_action» (now (topic .entry)) ⌝ }
+    ensures { λ r. ⌜ r ≡ rulingOf ruleMatches rules count «default_action» (now (topic .entry)) ⌝ }
 {
     let n = places(count as usize);
     let mut i = 0;
@@ -209,9 +209,9 @@ fn feeds_tracker(number: u8, payload_len: u16) -> bool
 }
 
 // Not denied by rules.
-fn pass(msg: MqttMessage, number: u8, broad: bool, ruling: Ruling) -> Gate
+fn goes_on(msg: MqttMessage, number: u8, broad: bool, ruling: Ruling) -> Gate
     requires { ⌜ number ≡ typeNumber (msg .«packet_type») ⌝ }
-    ensures { λ r. ⌜ r ≡ passes msg broad ruling ⌝ }
+    ensures { λ r. ⌜ r ≡ goesOn msg broad ruling ⌝ }
 {
     let policy = ruling.qos_policy;
     let actual = msg.qos;
@@ -242,7 +242,7 @@ fn gate_after(msg: MqttMessage, number: u8, topic: &[u8], ruling: Ruling) -> Gat
     if is_block(action) {
         return denied_by(3, broad, ruling);
     }
-    pass(msg, number, broad, ruling)
+    goes_on(msg, number, broad, ruling)
 }
 
 // The gate, in the document's order: other types end; an empty topic is 2; a Publish with zero, `+` or `#` is 9; then the rules decide.
@@ -253,7 +253,7 @@ pub fn gate_for(
     msg: MqttMessage,
     topic: &[u8],
 ) -> Gate
-    ensures { λ r. ⌜ r ≡ gateOf portMatches rules count «default_action» msg (now (topic .entry)) ⌝ }
+    ensures { λ r. ⌜ r ≡ gateOf ruleMatches rules count «default_action» msg (now (topic .entry)) ⌝ }
 {
     let packet_type = msg.packet_type;
     let number = type_number(packet_type);

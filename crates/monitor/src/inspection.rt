@@ -10,7 +10,7 @@ use crate::state::Outcome;
 use crate::state::well_formed;
 ghost use mathlib.Core.Path.{_≡_};
 ghost use Prim.Native.Nat.{min};
-ghost use Rattle.topics.specs.Matching.{portMatches};
+ghost use Rattle.tables.specs.Rules.{ruleMatches};
 ghost use Rattle.monitor.specs.Inspect.{noResult, refusedWith, inspectWith};
 
 // What an inspection hands back. Refused, `result` is a denial without alerts and the state is as given.
@@ -53,7 +53,7 @@ fn refused(m: MqttMonitor, number: u32) -> Inspected
 
 // 10 is tested first, then 9 for a lent topic or payload shorter than the part used.
 pub fn inspect(m: MqttMonitor, msg: MqttMessage, topic: &[u8], payload: &[u8]) -> Inspected
-    ensures { λ r. ⌜ r ≡ inspectWith portMatches m msg (now (topic .entry)) (now (payload .entry)) ⌝ }
+    ensures { λ r. ⌜ r ≡ inspectWith ruleMatches m msg (now (topic .entry)) (now (payload .entry)) ⌝ }
 {
     if !well_formed(m) {
         return refused(m, 10);
@@ -72,7 +72,7 @@ pub fn inspect(m: MqttMonitor, msg: MqttMessage, topic: &[u8], payload: &[u8]) -
     let seen_at = seen.at;
     if seen_at < 16 {
         let entry = seen.entry;
-        next.client_hashes[seen_at] = entry;
+        next.connect_windows[seen_at] = entry;
     }
     let spent = plan.spent;
     let spent_at = spent.at;

@@ -2,7 +2,7 @@
 // min(claimed, limit) bytes. The timestamp's verdict is an input (document 01, "What the hub takes over").
 use tables::rules::MqttQoS;
 ghost use mathlib.Core.Path.{_≡_};
-ghost use Rattle.monitor.specs.Message.{typeNumber};
+ghost use Rattle.monitor.specs.Message.{typeNumber, typeAt};
 
 pub enum MqttPacketType {
     Connect,

@@ -32,7 +32,7 @@ ghost use mathlib.Core.Bool.{true, false, cond, _||_};
 ghost use mathlib.Core.Path.{_≡_};
 ghost use lib.Dec.{eqb, ltb};
 ghost use lib.ListN.{replicate};
-ghost use Rattle.topics.specs.Matching.{portMatches};
+ghost use Rattle.tables.specs.Rules.{ruleMatches};
 ghost use Rattle.topics.specs.Payload.{payloadHash};
 ghost use Rattle.tables.specs.Buckets.{emptyBucket};
 ghost use Rattle.tables.specs.Trackers.{emptyTracker};
@@ -231,12 +231,12 @@ pub fn plan_from(
 
 // The plan of a message with its used topic and payload, under a state; `inspection::inspect` asks for it and does the stores.
 pub fn plan_for(m: MqttMonitor, msg: MqttMessage, topic: &[u8], payload: &[u8]) -> Plan
-    ensures { λ r. ⌜ r ≡ planOf portMatches m msg (now (topic .entry)) (now (payload .entry)) ⌝ }
+    ensures { λ r. ⌜ r ≡ planOf ruleMatches m msg (now (topic .entry)) (now (payload .entry)) ⌝ }
 {
     let rules = m.rules;
     let default_action = m.default_action;
     let gate = gate_for(rules, m.rule_count, default_action, msg, topic);
-    let clients = m.client_hashes;
+    let clients = m.connect_windows;
     let seen = seen_for(
         clients,
         m.connect_storm_threshold,

@@ -27,7 +27,7 @@ pub struct MqttMonitor {
     pub rules: [TopicRule; 32],
     pub rule_count: u16,
     pub rate_buckets: [RateBucket; 32],
-    pub client_hashes: [ClientStormEntry; 16],
+    pub connect_windows: [ClientStormEntry; 16],
     pub connect_storm_threshold: u8,
     pub connect_storm_window_us: u64,
     pub default_action: TopicAction,
@@ -146,7 +146,7 @@ pub fn well_formed(m: MqttMonitor) -> bool
     if !buckets_fine(buckets) {
         return false;
     }
-    let clients = m.client_hashes;
+    let clients = m.connect_windows;
     if !windows_fine(clients) {
         return false;
     }

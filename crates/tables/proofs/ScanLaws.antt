@@ -12,7 +12,7 @@ use lib.Dec.{leb, ltb}
 use lib.ListN.{length, drop, getD, drop-of-length-le}
 use lib.Seq.{drop-cons}
 use Rattle.laws.proofs.Cases.{by}
-use Rattle.tables.specs.Scan.{find, Least, absent, least, inFront, passed, leastOf, leastPlace, any, seat}
+use Rattle.tables.specs.Scan.{find, Least, absent, least, inFront, skipped, leastOf, leastPlace, any, seat}
 
 module _ {A : Type 0} (p : A → Bool) (l : List A) {i : ℕ} (d : A) where
   -- the record at a place passes: this is the first that does
@@ -167,7 +167,7 @@ kept q (least at u) = cond (q u) (least at u) absent
 -- a test that asks for a small number: the least that passes it is the least of all, if that passes
 module _ {A : Type 0} (f : A → ℕ) (p : A → Bool) (q : ℕ → Bool) (asks : (x : A) → p x ≡ q (f x)) (small : (t u : ℕ) → t ≤ u → q u ≡ true → q t ≡ true) where
   by-three : (t at u : ℕ) (a b c : Bool) → q t ≡ a → q u ≡ b → leb t u ≡ c
-      → cond a (inFront t (cond b (least at u) absent)) (passed (cond b (least at u) absent)) ≡ kept q (cond c (least 0 t) (least (suc at) u))
+      → cond a (inFront t (cond b (least at u) absent)) (skipped (cond b (least at u) absent)) ≡ kept q (cond c (least 0 t) (least (suc at) u))
   by-three t at u true true true ea eb ec = rw (ec, ea)
   by-three t at u true true false ea eb ec = rw (ec, eb)
   by-three t at u true false true ea eb ec = rw ea
@@ -177,7 +177,7 @@ module _ {A : Type 0} (f : A → ℕ) (p : A → Bool) (q : ℕ → Bool) (asks 
   by-three t at u false false true ea eb ec = rw ea
   by-three t at u false false false ea eb ec = rw eb
 
-  one-kept : (t : ℕ) (m : Least) → cond (q t) (inFront t (kept q m)) (passed (kept q m)) ≡ kept q (inFront t m)
+  one-kept : (t : ℕ) (m : Least) → cond (q t) (inFront t (kept q m)) (skipped (kept q m)) ≡ kept q (inFront t m)
   one-kept t absent = refl
   one-kept t (least at u) = by-three t at u (q t) (q u) (leb t u) refl refl refl
 

@@ -23,14 +23,14 @@ inFront t absent = least 0 t
 inFront t (least at u) = cond (leb t u) (least 0 t) (least (suc at) u)
 
 -- one record more in front, not to be looked at
-abbrev pub passed : Least → Least
-passed absent = absent
-passed (least at u) = least (suc at) u
+abbrev pub skipped : Least → Least
+skipped absent = absent
+skipped (least at u) = least (suc at) u
 
 -- the least number `f` among the records that pass a test
 unfoldable pub leastOf : {A : Type 0} → (A → ℕ) → (A → Bool) → List A → Least
 leastOf f p [] = absent
-leastOf f p (x ∷ xs) = cond (p x) (inFront (f x) (leastOf f p xs)) (passed (leastOf f p xs))
+leastOf f p (x ∷ xs) = cond (p x) (inFront (f x) (leastOf f p xs)) (skipped (leastOf f p xs))
 
 -- the place of the least, 0 where there is none
 abbrev pub leastPlace : Least → ℕ

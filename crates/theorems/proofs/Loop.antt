@@ -6,7 +6,7 @@ use mathlib.Core.Path.{_≡_, refl, sym, ap, _∙_}
 use Prim.Native.Nat.{ℕ, zero, suc, _+_, _*_, _≤_, min}
 use native.Mathlib.Omega.{arith}
 use lib.ListN.{length, length-take, length-drop}
-use Rattle.topics.specs.Matching.{portMatches}
+use Rattle.tables.specs.Rules.{ruleMatches}
 use Rattle.laws.proofs.Tests.{both}
 use Rattle.laws.proofs.Cases.{by}
 use Rattle.slices.specs.Bytes.{bytes}
@@ -24,7 +24,7 @@ use Rattle.monitor.specs.declared.state.MqttMonitor.{MqttMonitor}
 use Rattle.monitor.proofs.state.KeptFormed.{kept-formed}
 use Rattle.monitor.proofs.Prepared.{prepared-sound}
 use Rattle.monitor.proofs.Replies.{exact-done}
-use Rattle.loops.specs.Inspections.{patternOf, fromAt, ruled, readied, planAt, stateAfter, allowedAfter}
+use Rattle.loops.specs.Inspections.{patternAt, fromAt, ruled, readied, planAt, stateAfter, allowedAfter}
 use Rattle.loops.proofs.inspections.LoopLaws.{next-within, all-run}
 use Rattle.theorems.specs.Printed.{passed, callAt, callsTo, loopReplies, LoopLimits}
 use Rattle.theorems.specs.Run.{time, InOrder, nothing, single, later}
@@ -32,11 +32,11 @@ use Rattle.theorems.proofs.Cuts.{after-two}
 use Rattle.theorems.proofs.Printed.{topic-limits}
 
 -- replies of two runs, one after the other
-replies-two : (m : MqttMonitor) (a b : List Call) → replies portMatches m (a ++ b) ≡ replies portMatches m a ++ replies portMatches (after portMatches m a) b
+replies-two : (m : MqttMonitor) (a b : List Call) → replies ruleMatches m (a ++ b) ≡ replies ruleMatches m a ++ replies ruleMatches (after ruleMatches m a) b
 unfolding replies after
 replies-two m [] b = refl
 replies-two m (c ∷ a) b =
-    ap (λ (l : List Reply). record { call = c; given = answer portMatches m c } ∷ l) (replies-two (answer portMatches m c .monitor) a b)
+    ap (λ (l : List Reply). record { call = c; given = answer ruleMatches m c } ∷ l) (replies-two (answer ruleMatches m c .monitor) a b)
 
 every-two : {A : Type 0} (p : A → Bool) (a b : List A) → every p a ≡ true → every p b ≡ true → every p (a ++ b) ≡ true
 unfolding every
@@ -70,7 +70,7 @@ in-order (d ∷ e ∷ cs) c (later h o) p = later h (in-order (e ∷ cs) c o (p 
 ruled-prepared : (k : ℕ) → Prepared (ruled k)
 unfolding ruled
 ruled-prepared zero = made Block
-ruled-prepared (suc k) = rule (ruled-prepared k) (patternOf k) Allow (MinQoS AtLeastOnce) 65535
+ruled-prepared (suc k) = rule (ruled-prepared k) (patternAt k) Allow (MinQoS AtLeastOnce) 65535
 
 readied-prepared : (n : ℕ) → Prepared (readied n)
 readied-prepared n = rule (ruled-prepared n) (bytes "site/+/lamp/+") Allow (MinQoS AtLeastOnce) 65535
@@ -92,29 +92,29 @@ module _ (n : ℕ) (topics : List ℕ) (width size : ℕ) (short : width ≤ 128
 
   -- the state after the first messages
   abbrev there : ℕ → MqttMonitor
-  there k = after portMatches (readied n) (callsTo n topics width size k)
+  there k = after ruleMatches (readied n) (callsTo n topics width size k)
 
   formed : (k : ℕ) → wellFormed (there k) ≡ true
   unfolding callsTo after
   formed zero = prepared-sound (readied-prepared n) .formed
   formed (suc k) =
       let c = callAt n topics width size k in
-      rw (after-two portMatches (readied n) (callsTo n topics width size k) (c ∷ [])) (kept-formed portMatches (there k) (c .msg) (c .topic) (c .payload) (formed k))
+      rw (after-two ruleMatches (readied n) (callsTo n topics width size k) (c ∷ [])) (kept-formed ruleMatches (there k) (c .msg) (c .topic) (c .payload) (formed k))
 
-  done : (k : ℕ) → answer portMatches (there k) (callAt n topics width size k) ≡ doneWith (there k) (planAt n topics width size (there k) k)
-  done k = exact-done (there k) (callAt n topics width size k) (formed k) (exact k) portMatches
+  done : (k : ℕ) → answer ruleMatches (there k) (callAt n topics width size k) ≡ doneWith (there k) (planAt n topics width size (there k) k)
+  done k = exact-done (there k) (callAt n topics width size k) (formed k) (exact k) ruleMatches
 
   state : (k : ℕ) → stateAfter n topics width size k ≡ there k
   unfolding stateAfter callsTo after
   state zero = refl
   state (suc k) =
       rw (state k) (sym (ap (λ (i : Inspected). i .monitor) (done k)))
-      ∙ sym (after-two portMatches (readied n) (callsTo n topics width size k) (callAt n topics width size k ∷ []))
+      ∙ sym (after-two ruleMatches (readied n) (callsTo n topics width size k) (callAt n topics width size k ∷ []))
 
   -- one message more is one reply more
   one-more : (k : ℕ) → loopReplies n topics width size (suc k)
       ≡ loopReplies n topics width size k
-      ++ (record { call = callAt n topics width size k; given = answer portMatches (there k) (callAt n topics width size k) } ∷ [])
+      ++ (record { call = callAt n topics width size k; given = answer ruleMatches (there k) (callAt n topics width size k) } ∷ [])
   unfolding callsTo replies
   one-more k = replies-two (readied n) (callsTo n topics width size k) (callAt n topics width size k ∷ [])
 
@@ -150,6 +150,6 @@ loop-limits n topics width size k short lent =
       counts = all-run n topics width size k short lent ∙ all-counted n topics width size short lent k;
       limits =
           λ t s l.
-          topic-limits portMatches (readied-prepared n) (callsTo n topics width size k) (ordered n topics width size short lent k)
+          topic-limits ruleMatches (readied-prepared n) (callsTo n topics width size k) (ordered n topics width size short lent k)
           (all-inspected n topics width size short lent k) t s l;
     }

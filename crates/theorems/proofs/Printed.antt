@@ -9,7 +9,7 @@ use borrow.Author.Tests.{lt-ltb, not-true}
 use lib.Dec.{eqb, ltb}
 use lib.ListN.{length, length-take}
 use Rattle.slices.specs.Bytes.{same}
-use Rattle.topics.specs.Matching.{portMatches}
+use Rattle.tables.specs.Rules.{ruleMatches}
 use Rattle.laws.proofs.Tests.{both, alike, fails}
 use Rattle.laws.proofs.Cases.{by}
 use Rattle.slices.proofs.bytes.SameLaws.{same-true, same-refl}
@@ -273,4 +273,4 @@ module _ (matcher : Matcher) where
 pub printed-limits : PrintedLimits
 printed-limits s =
     let r = as-run s in
-    record { as-run = r; limits = λ o t short limited. topic-limits portMatches (r .prepared) (messagesOf s .sent) o (r .inspected) t short limited }
+    record { as-run = r; limits = λ o t short limited. topic-limits ruleMatches (r .prepared) (messagesOf s .sent) o (r .inspected) t short limited }

@@ -8,7 +8,7 @@ use mathlib.Core.List.{List, [], _∷_, _++_}
 use Prim.Native.Nat.{ℕ, zero, suc, _+_, _-_, _*_, _/_, _≤_, _<_, min}
 use lib.ListN.{length}
 use Rattle.slices.specs.Bytes.{same, bytes}
-use Rattle.topics.specs.Matching.{portMatches}
+use Rattle.tables.specs.Rules.{ruleMatches}
 use Rattle.lines.specs.Span.{part}
 use Rattle.monitor.specs.Prepared.{Prepared}
 use Rattle.monitor.specs.Runs.{Call, Reply, replies, isInspected, isPassed}
@@ -16,7 +16,7 @@ use Rattle.laws.specs.Lists.{every}
 use Rattle.monitor.specs.declared.state.MqttMonitor.{MqttMonitor}
 use Rattle.trace.specs.AsRun.{AsRun, repliesOf}
 use Rattle.trace.specs.Trace.{loaded, messagesOf}
-use Rattle.loops.specs.Inspections.{fromAt, messageAt, readied, loopAllowed}
+use Rattle.loops.specs.Inspections.{fromAt, loopMessage, readied, loopAllowed}
 use Rattle.theorems.specs.Run.{Matcher, time, used, isPublish, firstRate, rulesIn, isName, InOrder, arrived}
 
 -- the reply to a Publish of a topic
@@ -70,8 +70,8 @@ pub record TopicLimits (matcher : Matcher) (m : MqttMonitor) (t : List ℕ) (R :
 pub record Printed (s : List ℕ) : Type 0 where
   pub as-run : AsRun s
   pub limits :
-      InOrder (messagesOf s .sent) → (t : List ℕ) → length t ≤ 32 → 0 < topicRate portMatches (loaded s .monitor) t
-      → TopicLimits portMatches (loaded s .monitor) t (topicRate portMatches (loaded s .monitor) t) (repliesOf s)
+      InOrder (messagesOf s .sent) → (t : List ℕ) → length t ≤ 32 → 0 < topicRate ruleMatches (loaded s .monitor) t
+      → TopicLimits ruleMatches (loaded s .monitor) t (topicRate ruleMatches (loaded s .monitor) t) (repliesOf s)
 
 -- how many replies passed
 unfoldable pub passed : List Reply → ℕ
@@ -84,7 +84,7 @@ module _ (n : ℕ) (topics : List ℕ) (width size : ℕ) where
   abbrev pub callAt : ℕ → Call
   callAt k =
       record {
-        msg = messageAt width size k;
+        msg = loopMessage width size k;
         topic = part topics (fromAt (length topics) width k) (fromAt (length topics) width k + width);
         payload = bytes "on";
       }
@@ -96,7 +96,7 @@ module _ (n : ℕ) (topics : List ℕ) (width size : ℕ) where
 
   -- their replies
   abbrev pub loopReplies : ℕ → List Reply
-  loopReplies k = replies portMatches (readied n) (callsTo k)
+  loopReplies k = replies ruleMatches (readied n) (callsTo k)
 
   -- it is a run of `inspect` from a fresh monitor that refuses none; it counts the replies that passed, at most 2 ^ 64 - 1; and each topic is limited in them as demand 3 says
   pub record Looped (k : ℕ) : Type 0 where
@@ -104,8 +104,8 @@ module _ (n : ℕ) (topics : List ℕ) (width size : ℕ) where
     pub inspected : every isInspected (loopReplies k) ≡ true
     pub counts : loopAllowed n topics width size k ≡ min (passed (loopReplies k)) 18446744073709551615
     pub limits :
-        (t : List ℕ) → length t ≤ 32 → 0 < topicRate portMatches (readied n) t
-        → TopicLimits portMatches (readied n) t (topicRate portMatches (readied n) t) (loopReplies k)
+        (t : List ℕ) → length t ≤ 32 → 0 < topicRate ruleMatches (readied n) t
+        → TopicLimits ruleMatches (readied n) t (topicRate ruleMatches (readied n) t) (loopReplies k)
 
 -- of any text and of any loop whose topics are lent whole
 abbrev pub PrintedLimits : Type 0

@@ -7,7 +7,7 @@ use mathlib.Core.List.{List, [], _∷_, _++_, append-assoc}
 use native.Mathlib.Omega.{arith}
 use lib.Dec.{eqb, leb}
 use lib.ListN.{length}
-use Rattle.topics.specs.Matching.{portMatches}
+use Rattle.tables.specs.Rules.{ruleMatches}
 use Rattle.monitor.specs.Inspect.{applied, resultOf, doneWith}
 use Rattle.monitor.specs.Prepared.{Prepared, made, rule}
 use Rattle.monitor.specs.Runs.{Call, Exact, answer, after, replies, isInspected}
@@ -78,14 +78,14 @@ messages-exact s =
 
 module _ (m : MqttMonitor) (c : Call) (w : wellFormed m ≡ true) (e : Exact c) where
   -- `inspect` applies the plan
-  done : answer portMatches m c ≡ doneWith m (planned m c)
-  done = exact-done m c w e portMatches
+  done : answer ruleMatches m c ≡ doneWith m (planned m c)
+  done = exact-done m c w e ruleMatches
 
   formed : wellFormed (applied m (planned m c)) ≡ true
-  formed = applied-formed portMatches m (c .msg) (c .topic) (c .payload) w
+  formed = applied-formed ruleMatches m (c .msg) (c .topic) (c .payload) w
 
 -- none of the calls is refused
-run-inspected : (cs : List Call) (m : MqttMonitor) → wellFormed m ≡ true → AllExact cs → every isInspected (replies portMatches m cs) ≡ true
+run-inspected : (cs : List Call) (m : MqttMonitor) → wellFormed m ≡ true → AllExact cs → every isInspected (replies ruleMatches m cs) ≡ true
 unfolding every replies
 run-inspected [] m w e = refl
 run-inspected (c ∷ cs) m w e = rw (done m c w (e .0)) (run-inspected cs (applied m (planned m c)) (formed m c w (e .0)) (e .1))
@@ -93,21 +93,21 @@ run-inspected (c ∷ cs) m w e = rw (done m c w (e .0)) (run-inspected cs (appli
 -- what is printed of some messages from a state on
 run-text : (cs : List Call) (m : MqttMonitor) (n number line : ℕ) → wellFormed m ≡ true → AllExact cs
     → textFrom m n cs number line
-    ≡ recordsText n (replies portMatches m cs)
-    ++ closingText number line (after portMatches m cs .«total_inspected») (after portMatches m cs .«total_alerts»)
+    ≡ recordsText n (replies ruleMatches m cs)
+    ++ closingText number line (after ruleMatches m cs .«total_inspected») (after ruleMatches m cs .«total_alerts»)
 unfolding textFrom recordsText replies after
 run-text [] m n number line w e = refl
 run-text (c ∷ cs) m n number line w e =
     let next : MqttMonitor = applied m (planned m c) in
     let r = run-text cs next (n + 1) number line (formed m c w (e .0)) (e .1) in
     let first : List ℕ = recordText n (resultOf (planned m c)) in
-    let others : List ℕ = recordsText (n + 1) (replies portMatches next cs) in
-    let last : List ℕ = closingText number line (after portMatches next cs .«total_inspected») (after portMatches next cs .«total_alerts») in
+    let others : List ℕ = recordsText (n + 1) (replies ruleMatches next cs) in
+    let last : List ℕ = closingText number line (after ruleMatches next cs .«total_inspected») (after ruleMatches next cs .«total_alerts») in
     ap (λ (t : List ℕ). first ++ t) r ∙ sym (append-assoc first others last)
     ∙ ap
     (λ (i : Inspected).
-    recordText n (i .result) ++ recordsText (n + 1) (replies portMatches (i .monitor) cs)
-    ++ closingText number line (after portMatches (i .monitor) cs .«total_inspected») (after portMatches (i .monitor) cs .«total_alerts»))
+    recordText n (i .result) ++ recordsText (n + 1) (replies ruleMatches (i .monitor) cs)
+    ++ closingText number line (after ruleMatches (i .monitor) cs .«total_inspected») (after ruleMatches (i .monitor) cs .«total_alerts»))
     (sym (done m c w (e .0)))
 
 pub as-run : (s : List ℕ) → AsRun s

@@ -11,14 +11,13 @@ use lib.ListN.{length, length-append}
 use borrow.Author.Tests.{eqb-true, eqb-false, leb-true, leb-false}
 use Rattle.topics.specs.Levels.{levels}
 use Rattle.slices.specs.Bytes.{has, countOf}
-use Rattle.topics.specs.Matching.{portMatches}
+use Rattle.tables.specs.Rules.{ruleMatches, isHeld, rulePlan}
 use Rattle.topics.specs.Patterns.{wellPlaced, patternRefusal}
 use Rattle.laws.proofs.Cases.{by, whichever}
 use Rattle.tables.specs.declared.rules.QosPolicy.{QosPolicy}
 use Rattle.tables.specs.declared.rules.TopicAction.{TopicAction}
 use Rattle.tables.specs.declared.rules.TopicRule.{TopicRule}
 use Rattle.monitor.specs.Calls.{fresh, tested, addRule}
-use Rattle.tables.specs.Rules.{isHeld, rulePlan}
 use Rattle.monitor.specs.Runs.{Call}
 use Rattle.monitor.specs.State.{wellFormed, numberOf}
 use Rattle.tables.specs.declared.rules.RulePlan.{RulePlan}
@@ -39,8 +38,8 @@ text-short (x ∷ xs) m n number line c h a b =
     rw length-append
     (omega (
       arith,
-      result-short portMatches m (x .msg) (x .topic) (x .payload) c n (omega arith),
-      text-short xs _ (n + 1) number line (applied-counted portMatches m (x .msg) (x .topic) (x .payload) c) (omega arith) a b,
+      result-short ruleMatches m (x .msg) (x .topic) (x .payload) c n (omega arith),
+      text-short xs _ (n + 1) number line (applied-counted ruleMatches m (x .msg) (x .topic) (x .payload) c) (omega arith) a b,
     ))
 
 -- the messages from a place on: how many there are at most, and how they end

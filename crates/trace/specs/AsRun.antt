@@ -6,7 +6,7 @@ use mathlib.Core.Path.{_≡_}
 use mathlib.Core.Bool.{true}
 use mathlib.Core.List.{List, [], _∷_, _++_}
 use Prim.Native.Nat.{ℕ, _+_}
-use Rattle.topics.specs.Matching.{portMatches}
+use Rattle.tables.specs.Rules.{ruleMatches}
 use Rattle.monitor.specs.Prepared.{Prepared}
 use Rattle.monitor.specs.Runs.{Reply, replies, after, isInspected}
 use Rattle.laws.specs.Lists.{every}
@@ -21,11 +21,11 @@ recordsText n (r ∷ rs) = recordText n (r .given .result) ++ recordsText (n + 1
 
 -- the replies of a trace's run
 abbrev pub repliesOf : List ℕ → List Reply
-repliesOf s = replies portMatches (loaded s .monitor) (messagesOf s .sent)
+repliesOf s = replies ruleMatches (loaded s .monitor) (messagesOf s .sent)
 
 -- the state after its last message
 abbrev pub lastOf : List ℕ → MqttMonitor
-lastOf s = after portMatches (loaded s .monitor) (messagesOf s .sent)
+lastOf s = after ruleMatches (loaded s .monitor) (messagesOf s .sent)
 
 pub record AsRun (s : List ℕ) : Type 0 where
   -- it begins with a fresh monitor

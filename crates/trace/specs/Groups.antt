@@ -195,43 +195,43 @@ abbrev pub patternKept : List ℕ → ℕ → List ℕ → List ℕ
 patternKept s at d = hexKept s at (bytes "pattern=") d
 
 -- a buffer after a line and those that follow it: where the line is refused they are not read, and it is as it was
-abbrev pub after : Field → List ℕ → List ℕ → List ℕ
-after f kept d = cond (eqb (f .number) 0) kept d
+abbrev pub keptAfter : Field → List ℕ → List ℕ → List ℕ
+keptAfter f kept d = cond (eqb (f .number) 0) kept d
 
 -- the buffer of a message's topic after its lines up to `topic=` were read
 unfoldable pub topic4 : List ℕ → Field → List ℕ → List ℕ
-topic4 s q d = after q (hexKept s (q .next) (bytes "topic=") d) d
+topic4 s q d = keptAfter q (hexKept s (q .next) (bytes "topic=") d) d
 
 unfoldable pub topic3 : List ℕ → Field → List ℕ → List ℕ
-topic3 s k d = after k (topic4 s (qosLine s k) d) d
+topic3 s k d = keptAfter k (topic4 s (qosLine s k) d) d
 
 unfoldable pub topic2 : List ℕ → Field → List ℕ → List ℕ
-topic2 s c d = after c (topic3 s (typeLine s c) d) d
+topic2 s c d = keptAfter c (topic3 s (typeLine s c) d) d
 
 unfoldable pub topic1 : List ℕ → Field → List ℕ → List ℕ
-topic1 s t d = after t (topic2 s (clockLine s t) d) d
+topic1 s t d = keptAfter t (topic2 s (clockLine s t) d) d
 
 unfoldable pub topicKept : List ℕ → ℕ → List ℕ → List ℕ
 topicKept s at d = topic1 s (atLine s at) d
 
 -- the buffer of its payload after its lines up to `payload=` were read
 unfoldable pub payload6 : List ℕ → Field → List ℕ → List ℕ
-payload6 s z d = after z (hexKept s (z .next) (bytes "payload=") d) d
+payload6 s z d = keptAfter z (hexKept s (z .next) (bytes "payload=") d) d
 
 unfoldable pub payload5 : List ℕ → Field → List ℕ → List ℕ
-payload5 s n d = after n (payload6 s (sizeLine s n) d) d
+payload5 s n d = keptAfter n (payload6 s (sizeLine s n) d) d
 
 unfoldable pub payload4 : List ℕ → Field → List ℕ → List ℕ
-payload4 s q d = after q (payload5 s (topicLine s q) d) d
+payload4 s q d = keptAfter q (payload5 s (topicLine s q) d) d
 
 unfoldable pub payload3 : List ℕ → Field → List ℕ → List ℕ
-payload3 s k d = after k (payload4 s (qosLine s k) d) d
+payload3 s k d = keptAfter k (payload4 s (qosLine s k) d) d
 
 unfoldable pub payload2 : List ℕ → Field → List ℕ → List ℕ
-payload2 s c d = after c (payload3 s (typeLine s c) d) d
+payload2 s c d = keptAfter c (payload3 s (typeLine s c) d) d
 
 unfoldable pub payload1 : List ℕ → Field → List ℕ → List ℕ
-payload1 s t d = after t (payload2 s (clockLine s t) d) d
+payload1 s t d = keptAfter t (payload2 s (clockLine s t) d) d
 
 unfoldable pub payloadKept : List ℕ → ℕ → List ℕ → List ℕ
 payloadKept s at d = payload1 s (atLine s at) d

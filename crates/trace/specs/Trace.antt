@@ -6,7 +6,7 @@ use Prim.Native.Nat.{ℕ, zero, suc, _+_}
 use lib.Dec.{eqb, leb}
 use lib.ListN.{length}
 use lib.Seq.{sets}
-use Rattle.topics.specs.Matching.{portMatches}
+use Rattle.tables.specs.Rules.{ruleMatches}
 use Rattle.monitor.specs.Calls.{fresh, addRule}
 use Rattle.monitor.specs.Inspect.{applied, resultOf}
 use Rattle.monitor.specs.Plan.{planOf}
@@ -105,7 +105,7 @@ messagesOf s =
 
 -- what a message does to the monitor
 abbrev pub planned : MqttMonitor → Call → Plan
-planned m x = planOf portMatches m (x .msg) (x .topic) (x .payload)
+planned m x = planOf ruleMatches m (x .msg) (x .topic) (x .payload)
 
 -- the records of messages from the n-th on, then the closing lines
 unfoldable pub textFrom : MqttMonitor → ℕ → List Call → ℕ → ℕ → List ℕ

@@ -17,7 +17,6 @@ use monitor::plan::id_for;
 use monitor::plan::plan_from;
 use monitor::plan::seen_for;
 use monitor::plan::spent_for;
-use monitor::rule_calls::plan_rule;
 use monitor::state::MqttMonitor;
 use monitor::state::free_rules;
 use tables::rules::TopicAction;
@@ -249,7 +248,7 @@ fn pass(text: &[u8], out: &mut [u8], write: bool) -> TraceEnd
         let rules = m.rules;
         let default_action = m.default_action;
         let gate = gate_for(rules, m.rule_count, default_action, msg, name);
-        let clients = m.client_hashes;
+        let clients = m.connect_windows;
         let seen = seen_for(
             clients,
             m.connect_storm_threshold,
@@ -277,7 +276,7 @@ fn pass(text: &[u8], out: &mut [u8], write: bool) -> TraceEnd
         let seen_at = seen.at;
         if seen_at < 16 {
             let entry = seen.entry;
-            m.client_hashes[seen_at] = entry;
+            m.connect_windows[seen_at] = entry;
         }
         let spent = plan.spent;
         let spent_at = spent.at;

@@ -1,6 +1,6 @@
 -- `answer` meets its contract: `run_trace` does, and a buffer of `enough` bytes holds all of the text. A failed read leaves no text to answer. Assumes nothing.
 use borrow.Author.Needs.{needs}
-use Rattle.hubtrace.specs.Answered.{answered}
+use Rattle.hubtrace.specs.Answered.{answerTo}
 use Rattle.hubtrace.proofs.Whole.{read-part, answered-whole}
 use Rattle.hubtrace.proofs.answer.Statement.{statement}
 use Rattle.hubtrace.proofs.answer.Tie as tie
@@ -12,7 +12,7 @@ enum-told : tie.Need-enum-told
 enum-told c = search needs
 
 returns : tie.Need-returns
-unfolding answered
+unfolding answerTo
 returns c = search needs
 
 slice-aggregate-run-trace : tie.Need-slice-aggregate-run-trace

@@ -14,7 +14,7 @@ use Rattle.lines.specs.declared.value.Number.the-variants.{Value, Bad}
 use Rattle.slices.specs.Bytes.{placeIn, begins}
 use Rattle.lines.specs.Span.{spanOf, part}
 use Rattle.lines.specs.ReadHex.{hexCount}
-use Rattle.lines.specs.Field.{Within, refused, read, keyed, lineAt, valueOf, onLine, answered, counted}
+use Rattle.lines.specs.Field.{Within, refused, read, keyed, lineAt, valueOf, onLine, answered, spelledBytes}
 use Rattle.laws.proofs.Cases.{by}
 use Rattle.lines.proofs.held.SpanLaws.{span-within, span-whole}
 use Rattle.slices.proofs.bytes.WalkLaws.{begins-fits}
@@ -83,14 +83,14 @@ module _ (s : List ℕ) (at : ℕ) (key : List ℕ) {line : Field} (e : line ≡
 
   -- a line that was read, and whose hex is refused
   pub counts-not : line .number ≡ 0 → {f : Field} {number n : ℕ} (count : ℕ) → number ≡ n → (number ≡ 0 → ⊥) → f ≡ refused number at
-      → (f ≡ onLine line (counted line (placeIn s at) n count)) × Within s f
+      → (f ≡ onLine line (spelledBytes line (placeIn s at) n count)) × Within s f
   counts-not z {f} {number} count q h g =
       let l = line-start z in
       (rw (← q, eq-eqb _ _ z, ne-eqb _ _ h, l .0) g, within-refused number at g (l .1))
 
   -- a line that was read, and whose hex is read
   pub counts : line .number ≡ 0 → Within s line → {f : Field} {number n : ℕ} → number ≡ n → number ≡ 0 → f ≡ read line ((line .to - line .from) / 2)
-      → (f ≡ onLine line (counted line (placeIn s at) n (hexCount (valueOf s line)))) × Within s f
+      → (f ≡ onLine line (spelledBytes line (placeIn s at) n (hexCount (valueOf s line)))) × Within s f
   counts z w q h g =
       let c : length (valueOf s line) ≡ line .to - line .from = simp (length-take, length-drop) (omega arith) in
       (rw (← q, eq-eqb _ _ z, eq-eqb _ _ h, c) g, rw g (record { ordered = w .ordered; inside = w .inside; after = w .after }))

@@ -9,11 +9,10 @@ use native.Mathlib.Omega.{arith}
 use lib.Dec.{leb}
 use lib.ListN.{length, set, replicate}
 use borrow.Author.Tests.{lt-ltb, le-ltb, leb-true}
-use Rattle.topics.specs.Matching.{portMatches}
+use Rattle.tables.specs.Rules.{ruleMatches, emptyRule, rulePlan}
 use Rattle.slices.specs.Bytes.{bytes}
 use Rattle.lines.specs.Span.{part}
 use Rattle.laws.proofs.Cases.{by}
-use Rattle.tables.specs.Rules.{emptyRule, rulePlan}
 use Rattle.tables.specs.declared.rules.MqttQoS.the-variants.{AtLeastOnce}
 use Rattle.tables.specs.declared.rules.QosPolicy.the-variants.{MinQoS}
 use Rattle.tables.specs.declared.rules.TopicAction.the-variants.{Allow, Block}
@@ -31,29 +30,29 @@ use Rattle.monitor.specs.declared.state.MqttMonitor.{MqttMonitor}
 use Rattle.monitor.proofs.rule_calls.AddLaws.{add-takes, add-leaves}
 use Rattle.monitor.proofs.PlainLaws.{holding, no-rules, Plain, fresh-plain, add-plain, add-default}
 use Rattle.monitor.proofs.SoundCalls.{sound-fresh, sound-add}
-use Rattle.loops.specs.Inspections.{patternOf, nextFrom, fromAt, messageAt, withRule, ruled, readied, rulesIn, stateAfter, allowedAfter, loopAllowed}
+use Rattle.loops.specs.Inspections.{patternAt, nextFrom, fromAt, loopMessage, withPattern, ruled, readied, heldRules, stateAfter, allowedAfter, loopAllowed}
 use Rattle.loops.specs.declared.inspections.HeldRules.{HeldRules}
 
 -- a state with rules is sound
 ruled-sound : (k : ℕ) → Sound (ruled k)
 unfolding ruled
 ruled-sound zero = sound-fresh Block
-ruled-sound (suc k) = sound-add (ruled-sound k) (patternOf k) Allow (MinQoS AtLeastOnce) 65535
+ruled-sound (suc k) = sound-add (ruled-sound k) (patternAt k) Allow (MinQoS AtLeastOnce) 65535
 
 -- it has nothing but them
 ruled-plain : (k : ℕ) → Plain (ruled k)
 unfolding ruled
 ruled-plain zero = fresh-plain Block
-ruled-plain (suc k) = add-plain (ruled k) (patternOf k) Allow (MinQoS AtLeastOnce) 65535 (ruled-plain k)
+ruled-plain (suc k) = add-plain (ruled k) (patternAt k) Allow (MinQoS AtLeastOnce) 65535 (ruled-plain k)
 
 -- and blocks by default
 ruled-blocks : (k : ℕ) → ruled k .«default_action» ≡ Block
 unfolding ruled fresh
 ruled-blocks zero = refl
-ruled-blocks (suc k) = add-default (ruled k) (patternOf k) Allow (MinQoS AtLeastOnce) 65535 ∙ ruled-blocks k
+ruled-blocks (suc k) = add-default (ruled k) (patternAt k) Allow (MinQoS AtLeastOnce) 65535 ∙ ruled-blocks k
 
 -- so a fresh monitor that gets all the rules is the one that is wanted
-pub held-start : (n : ℕ) {m : MqttMonitor} {held : HeldRules} → m ≡ fresh Block → held ≡ rulesIn (readied n) → withRules m (held .rules) (held .«rule_count») ≡ readied n
+pub held-start : (n : ℕ) {m : MqttMonitor} {held : HeldRules} → m ≡ fresh Block → held ≡ heldRules (readied n) → withRules m (held .rules) (held .«rule_count») ≡ readied n
 held-start n em eh =
     let last = bytes "site/+/lamp/+" in
     let default : readied n .«default_action» ≡ Block = add-default (ruled n) last Allow (MinQoS AtLeastOnce) 65535 ∙ ruled-blocks n in
@@ -71,15 +70,15 @@ module _ (k : ℕ) {rules : List TopicRule} {n : ℕ} (em : holding Block rules 
   formed = rw em (ruled-sound k .formed)
 
   -- it is stored
-  pub rule-taken : plan .number ≡ 0 → holding Block (set rules (plan .at) (plan .rule)) (plan .count) ≡ withRule (ruled k) p
+  pub rule-taken : plan .number ≡ 0 → holding Block (set rules (plan .at) (plan .rule)) (plan .count) ≡ withPattern (ruled k) p
   rule-taken z = rw (← em) (sym (add-takes (holding Block rules n) p Allow (MinQoS AtLeastOnce) 65535 e formed z))
 
   -- the table stays
-  pub rule-left : (plan .number ≡ 0 → ⊥) → holding Block rules n ≡ withRule (ruled k) p
+  pub rule-left : (plan .number ≡ 0 → ⊥) → holding Block rules n ≡ withPattern (ruled k) p
   rule-left z = rw (← em) (sym (add-leaves (holding Block rules n) p Allow (MinQoS AtLeastOnce) 65535 e formed z))
 
 -- the loop's rules: one more
-pub ruled-turn : (k : ℕ) {m : MqttMonitor} {p : List ℕ} → p ≡ patternOf k → m ≡ withRule (ruled k) p → m ≡ ruled (k + 1)
+pub ruled-turn : (k : ℕ) {m : MqttMonitor} {p : List ℕ} → p ≡ patternAt k → m ≡ withPattern (ruled k) p → m ≡ ruled (k + 1)
 unfolding ruled
 ruled-turn k ep e = rw (e, ep, add-one k)
 
@@ -89,7 +88,7 @@ next-within long width from h = by (leb (from + width + width) long) (λ e. rw e
 
 -- a message whose plan is known
 module _ (n : ℕ) (topics : List ℕ) (width size k : ℕ) {m : MqttMonitor} {msg : MqttMessage} {from : ℕ} {p : Plan} (em : m ≡ stateAfter n topics width size k)
-    (eg : msg ≡ messageAt width size k) (ef : from ≡ fromAt (length topics) width k) (ep : p ≡ planOf portMatches m msg (part topics from (from + width)) (bytes "on")) where
+    (eg : msg ≡ loopMessage width size k) (ef : from ≡ fromAt (length topics) width k) (ep : p ≡ planOf ruleMatches m msg (part topics from (from + width)) (bytes "on")) where
   -- the state after it
   pub state-turn : {next : MqttMonitor} → next ≡ applied m p → next ≡ stateAfter n topics width size (k + 1)
   unfolding stateAfter

@@ -17,7 +17,7 @@ use Rattle.monitor.specs.declared.gate.Gate.{Gate}
 use Rattle.monitor.specs.declared.gate.Ruling.{Ruling}
 use Rattle.monitor.specs.declared.message.MqttMessage.{MqttMessage}
 use Rattle.monitor.specs.Message.{typeNumber}
-use Rattle.monitor.specs.Gate.{isBlock, ruledBy, ruledByDefault, rulingOf, deniedBy, passes, gateAfter}
+use Rattle.monitor.specs.Gate.{isBlock, ruledBy, ruledByDefault, rulingOf, deniedBy, goesOn, gateAfter}
 
 -- an empty topic and any other, by their length
 pub none-empty : (t : List ℕ) → length t ≡ 0 → none t ≡ true
@@ -55,6 +55,6 @@ module _ (msg : MqttMessage) (topic : List ℕ) (r : Ruling) {n : ℕ} {broad re
   unfolding gateAfter
   after-blocked h k b e = rw (← type, sym dollar ∙ h, sym k ∙ b, ← wide) e
 
-  pub after-passed : {block : Bool} → reserved ≡ false → block ≡ isBlock (r .action) → block ≡ false → g ≡ passes msg broad r → g ≡ gateAfter msg topic r
+  pub after-passed : {block : Bool} → reserved ≡ false → block ≡ isBlock (r .action) → block ≡ false → g ≡ goesOn msg broad r → g ≡ gateAfter msg topic r
   unfolding gateAfter
   after-passed h k b e = let p = rw (← type) at e in rw (← type, sym dollar ∙ h, sym k ∙ b, ← wide) p

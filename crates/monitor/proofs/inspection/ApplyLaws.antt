@@ -4,11 +4,13 @@ use mathlib.Core.List.{List}
 use mathlib.Core.Path.{_≡_, sym, _∙_}
 use Prim.Native.Nat.{ℕ, _<_, _≤_}
 use borrow.Author.Tests.{lt-ltb, le-ltb, not-true, not-false}
+use lib.Dec.{ltb}
 use lib.ListN.{length, take, set}
 use Rattle.tables.specs.declared.buckets.RateBucket.{RateBucket}
 use Rattle.tables.specs.declared.trackers.EwmaTracker.{EwmaTracker}
 use Rattle.tables.specs.declared.windows.ClientStormEntry.{ClientStormEntry}
 use Rattle.monitor.specs.Alerts.{counted}
+use Rattle.laws.proofs.Cases.{whichever}
 use Rattle.monitor.specs.Inspect.{storedAt, applied, resultOf, inspectRefusal, refusedWith, inspectWith}
 use Rattle.monitor.specs.Message.{usedTopic, usedPayload}
 use Rattle.monitor.specs.Plan.{planOf}
@@ -32,14 +34,14 @@ abbrev pub withClients : MqttMonitor → List ClientStormEntry → MqttMonitor
 withClients m l = withTables m (m .«rate_buckets») l (m .«ewma_trackers»)
 
 abbrev pub withBuckets : MqttMonitor → List RateBucket → MqttMonitor
-withBuckets m l = withTables m l (m .«client_hashes») (m .«ewma_trackers»)
+withBuckets m l = withTables m l (m .«connect_windows») (m .«ewma_trackers»)
 
 abbrev pub withTrackers : MqttMonitor → List EwmaTracker → MqttMonitor
-withTrackers m l = withTables m (m .«rate_buckets») (m .«client_hashes») l
+withTrackers m l = withTables m (m .«rate_buckets») (m .«connect_windows») l
 
 -- the three stores and the counters are the plan applied
 pub stored-all : (m : MqttMonitor) (p : Plan) {a b c : MqttMonitor} {n : ℕ}
-    → a ≡ withClients m (storedAt 16 (m .«client_hashes») (p .seen .at) (p .seen .entry))
+    → a ≡ withClients m (storedAt 16 (m .«connect_windows») (p .seen .at) (p .seen .entry))
     → b ≡ withBuckets a (storedAt 32 (a .«rate_buckets») (p .spent .at) (p .spent .bucket))
     → c ≡ withTrackers b (storedAt 16 (b .«ewma_trackers») (p .fed .at) (p .fed .tracker))
     → n ≡ counted (m .«total_inspected»)
@@ -71,3 +73,7 @@ module _ (matcher : List ℕ → List ℕ → Bool) (m : MqttMonitor) (msg : Mqt
         → record { outcome = Done 0; stage = p .stage; result = resultOf p; monitor = next } ≡ inspectWith matcher m msg topic payload
     unfolding inspectWith inspectRefusal
     inspected l back s e g = rw (sym test ∙ not-false formed h, ← front, le-ltb _ _ l, ← back, le-ltb _ _ s, ← e) (rw g)
+
+-- what is true of a table with a record stored and without it
+pub stored-or-not : {A : Type 0} (P : List A → Type 0) (n : ℕ) (l : List A) (at : ℕ) (x : A) → P l → P (set l at x) → P (storedAt n l at x)
+stored-or-not P n l at x p q = whichever P (ltb at n) q p

@@ -54,7 +54,7 @@ module _ (g : Gate) (topic : List ℕ) where
 pub composed : (matcher : List ℕ → List ℕ → Bool) (m : MqttMonitor) (msg : MqttMessage) (topic payload : List ℕ)
     {g : Gate} {seen : ConnectDecision} {id : Id} {spent : RateDecision} {fed : TrackerDecision} {plan : Plan}
     → g ≡ gateIn matcher m msg topic
-    → seen ≡ seenOf (m .«client_hashes») (m .«connect_storm_threshold») (m .«connect_storm_window_us») msg topic
+    → seen ≡ seenOf (m .«connect_windows») (m .«connect_storm_threshold») (m .«connect_storm_window_us») msg topic
     → id ≡ idFor g topic
     → spent ≡ spentOf (m .«rate_buckets») (g .rate) id (msg .«timestamp_us»)
     → fed ≡ fedOf (m .«ewma_trackers») (g .feeds) id (msg .«payload_len») (msg .«timestamp_us»)

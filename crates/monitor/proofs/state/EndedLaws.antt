@@ -23,7 +23,7 @@ formed-count m e =
     let n = leb (m .«rule_count») 32 in
     let a = every ruleFine (take (m .«rule_count») (m .rules)) in
     let b = every bucketFine (m .«rate_buckets») in
-    let c = every windowFine (m .«client_hashes») in
+    let c = every windowFine (m .«connect_windows») in
     let d = every trackerFine (m .«ewma_trackers») in
     leb-true _ _ (both n a (both (n && a) b (both (n && a && b) c (both (n && a && b && c) d e .0) .0) .0) .0)
 

@@ -10,7 +10,7 @@ use lib.Dec.{eqb, leb}
 use lib.ListN.{length, length-append}
 use lib.Seq.{sets, length-sets}
 use borrow.Author.Tests.{eqb-true, eq-eqb, ne-eqb, le-leb, lt-leb, leb-false}
-use Rattle.topics.specs.Matching.{portMatches}
+use Rattle.tables.specs.Rules.{ruleMatches}
 use Rattle.lines.specs.Wrote.{Wrote, placeAfter}
 use Rattle.laws.proofs.Cases.{by}
 use Rattle.lines.proofs.put.WroteLaws.{wrote-then}
@@ -99,7 +99,7 @@ module _ (s : List ℕ) where
 
   -- what a message that was read does, by what its reader and the plan handed back
   pub plan-sent : (at : ℕ) (m : MqttMonitor) {r : MessageLines} {topic payload : List ℕ} {plan : Plan} → r ≡ messageAt s at → topic ≡ topicIn s r
-      → payload ≡ payloadIn s r → plan ≡ planOf portMatches m (r .msg) topic payload → plan ≡ planned m (sentAt at)
+      → payload ≡ payloadIn s r → plan ≡ planOf ruleMatches m (r .msg) topic payload → plan ≡ planned m (sentAt at)
   plan-sent at m e t p q = rw (t, p, e) at q
 
 -- a text after another

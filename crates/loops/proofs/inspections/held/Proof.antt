@@ -7,7 +7,7 @@ use borrow.Author.Needs.{needs}
 use Rattle.tables.specs.declared.rules.TopicAction.the-variants.{Block}
 use Rattle.tables.proofs.rules.PlanLaws.{plan-place}
 use Rattle.monitor.proofs.PlainLaws.{holding}
-use Rattle.loops.specs.Inspections.{withRule, ruled, rulesIn}
+use Rattle.loops.specs.Inspections.{withPattern, ruled, heldRules}
 use Rattle.loops.proofs.inspections.LoopLaws.{ruled-none, rule-taken, rule-left, ruled-turn}
 use Rattle.loops.proofs.inspections.held.Statement.{statement}
 use Rattle.loops.proofs.inspections.held.Tie as tie
@@ -42,7 +42,7 @@ mul-rules c = record { fits = omega (arith, array-set-from-rules c) }
 -- the rules after the store, where the ways from its test meet
 rules-are : (c : tie.Joined1 Inv-loop μ-loop)
     → let pattern = c .before .before .before .before in
-    holding Block (c .if1 .rules) (c .if1 .rule-count) ≡ withRule (ruled (pattern .before .before .loop .k)) (pattern .pattern-of .result)
+    holding Block (c .if1 .rules) (c .if1 .rule-count) ≡ withPattern (ruled (pattern .before .before .loop .k)) (pattern .pattern-of .result)
 rules-are c =
     let em = c .before .before .before .before .before .before .loop .inv .1 in
     let e = c .before .before .plan-rule .ensures in
@@ -83,13 +83,13 @@ returns : tie.Need-returns Inv-loop μ-loop
 returns c =
     let plan = c .before .before .before in
     let done = plan .before .before in
-    rw (← all-others done) (ap rulesIn (rule-taken _ (done .before .loop .inv .1) _ (plan .plan-rule2 .ensures) (c .before .if2 .taken)))
+    rw (← all-others done) (ap heldRules (rule-taken _ (done .before .loop .inv .1) _ (plan .plan-rule2 .ensures) (c .before .if2 .taken)))
 
 returns-2 : tie.Need-returns-2 Inv-loop μ-loop
 returns-2 c =
     let plan = c .before .before in
     let done = plan .before .before in
-    rw (← all-others done) (ap rulesIn (rule-left _ (done .before .loop .inv .1) _ (plan .plan-rule2 .ensures) (c .if2 .left)))
+    rw (← all-others done) (ap heldRules (rule-left _ (done .before .loop .inv .1) _ (plan .plan-rule2 .ensures) (c .if2 .left)))
 
 pub held-spec : {M : Type 1} → statement M
 held-spec =

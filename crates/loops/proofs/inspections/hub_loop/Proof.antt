@@ -92,13 +92,13 @@ at-test c = c .before .before .before .before
 client-is : (c : tie.Joined3 Inv-loop μ-loop)
     → let m = at-test (c .before .before .before) .before .loop .m in
     let d = c .before .before .before .plan-for .result .seen in
-    c .if3 .m ≡ withClients m (storedAt 16 (m .«client_hashes») (d .at) (d .entry))
+    c .if3 .m ≡ withClients m (storedAt 16 (m .«connect_windows») (d .at) (d .entry))
 client-is c =
     let m = at-test (c .before .before .before) .before .loop .m in
     let d = c .before .before .before .plan-for .result .seen in
     ⊎-elim
-    (λ w. stored-yes (withClients m) 16 (m .«client_hashes») (d .at) (d .entry) (w .0 .taken) (w .2))
-    (λ w. stored-no (withClients m) 16 (m .«client_hashes») (d .at) (d .entry) (w .0 .left) (w .1))
+    (λ w. stored-yes (withClients m) 16 (m .«connect_windows») (d .at) (d .entry) (w .0 .taken) (w .2))
+    (λ w. stored-no (withClients m) 16 (m .«connect_windows») (d .at) (d .entry) (w .0 .left) (w .1))
     (c .if3 .came)
 
 bucket-is : (c : tie.Joined4 Inv-loop μ-loop)

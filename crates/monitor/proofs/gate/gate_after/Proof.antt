@@ -34,8 +34,8 @@ returns-2 c =
     after-blocked (s .args .msg) (s .args .topic .now) (s .args .ruling) (s .pre) (k .before .is-broad-subscribe .ensures)
     (k .is-reserved .ensures) (f .if1 .left) (c .before .before .is-block .ensures) (c .before .if2 .taken) (c .denied-by2 .ensures)
 
-pass-requires : tie.Need-pass-requires
-pass-requires c κs = search needs
+goes-on-requires : tie.Need-goes-on-requires
+goes-on-requires c κs = search needs
 
 returns-3 : tie.Need-returns-3
 returns-3 c =
@@ -43,7 +43,7 @@ returns-3 c =
     let k = f .before in
     let s = k .before .before .before in
     after-passed (s .args .msg) (s .args .topic .now) (s .args .ruling) (s .pre) (k .before .is-broad-subscribe .ensures)
-    (k .is-reserved .ensures) (f .if1 .left) (c .before .before .is-block .ensures) (c .before .if2 .left) (c .pass .ensures)
+    (k .is-reserved .ensures) (f .if1 .left) (c .before .before .is-block .ensures) (c .before .if2 .left) (c .goes-on .ensures)
 
 pub gate-after-spec : {M : Type 1} → statement M
 gate-after-spec =
@@ -56,5 +56,5 @@ gate-after-spec =
     is-block-requires
     denied-by-requires-2
     returns-2
-    pass-requires
+    goes-on-requires
     returns-3)

@@ -2,7 +2,7 @@
 use mathlib.Core.Logic.{⊎-elim}
 use mathlib.Core.Path.{_≡_, sym}
 use lib.Seq.{length-take-le}
-use Rattle.topics.specs.Matching.{portMatches}
+use Rattle.tables.specs.Rules.{ruleMatches}
 use Rattle.monitor.specs.Inspect.{storedAt}
 use Rattle.monitor.proofs.inspection.ApplyLaws.{stored-yes, stored-no, withClients, withBuckets, withTrackers, stored-all, not-formed, short-topic, short-payload, inspected}
 use borrow.Author.Needs.{needs}
@@ -29,7 +29,7 @@ refused-requires : tie.Need-refused-requires
 refused-requires c κs = search needs
 
 returns : tie.Need-returns
-returns c = not-formed portMatches _ _ _ _ (c .before .before .well-formed .ensures) (c .before .if1 .taken) (c .refused .ensures)
+returns c = not-formed ruleMatches _ _ _ _ (c .before .before .well-formed .ensures) (c .before .if1 .taken) (c .refused .ensures)
 
 cast-used : tie.Need-cast-used
 cast-used c = search needs
@@ -43,7 +43,7 @@ refused-requires-2 c κs = search needs
 returns-2 : tie.Need-returns-2
 returns-2 c =
     let formed = c .before .before .before .before in
-    short-topic portMatches _ _ _ _ (formed .before .well-formed .ensures) (formed .if1 .left) (c .before .before .used .ensures) (c .before .if2 .taken) (c .refused2 .ensures)
+    short-topic ruleMatches _ _ _ _ (formed .before .well-formed .ensures) (formed .if1 .left) (c .before .before .used .ensures) (c .before .if2 .taken) (c .refused2 .ensures)
 
 cast-used-2 : tie.Need-cast-used-2
 cast-used-2 c = search needs
@@ -58,7 +58,7 @@ returns-3 : tie.Need-returns-3
 returns-3 c =
     let topic = c .before .before .before .before in
     let formed = at-formed topic in
-    short-payload portMatches _ _ _ _ (formed .before .well-formed .ensures) (formed .if1 .left) (topic .before .used .ensures) (topic .if2 .left)
+    short-payload ruleMatches _ _ _ _ (formed .before .well-formed .ensures) (formed .if1 .left) (topic .before .used .ensures) (topic .if2 .left)
     (c .before .before .used2 .ensures) (c .before .if3 .taken) (c .refused3 .ensures)
 
 slice-aggregate-plan-for : tie.Need-slice-aggregate-plan-for
@@ -95,13 +95,13 @@ count-on-requires c κs = search needs
 client-is : (c : tie.Joined4)
     → let m = at-start (at-formed (at-topic (at-payload (c .before .before)))) .args .m in
     let d = c .before .before .plan-for .result .seen in
-    c .if4 .next ≡ withClients m (storedAt 16 (m .«client_hashes») (d .at) (d .entry))
+    c .if4 .next ≡ withClients m (storedAt 16 (m .«connect_windows») (d .at) (d .entry))
 client-is c =
     let m = at-start (at-formed (at-topic (at-payload (c .before .before)))) .args .m in
     let d = c .before .before .plan-for .result .seen in
     ⊎-elim
-    (λ w. stored-yes (withClients m) 16 (m .«client_hashes») (d .at) (d .entry) (w .0 .taken) (w .2))
-    (λ w. stored-no (withClients m) 16 (m .«client_hashes») (d .at) (d .entry) (w .0 .left) (w .1))
+    (λ w. stored-yes (withClients m) 16 (m .«connect_windows») (d .at) (d .entry) (w .0 .taken) (w .2))
+    (λ w. stored-no (withClients m) 16 (m .«connect_windows») (d .at) (d .entry) (w .0 .left) (w .1))
     (c .if4 .came)
 
 bucket-is : (c : tie.Joined5)
@@ -138,7 +138,7 @@ returns-4 c =
     let topic = at-topic payload in
     let formed = at-formed topic in
     let stored = stored-all _ _ (client-is client) (bucket-is bucket) (tracker-is tracker) (c .before .count-on .ensures) in
-    inspected portMatches _ _ _ _ (formed .before .well-formed .ensures) (formed .if1 .left) (topic .before .used .ensures) (topic .if2 .left)
+    inspected ruleMatches _ _ _ _ (formed .before .well-formed .ensures) (formed .if1 .left) (topic .before .used .ensures) (topic .if2 .left)
     (payload .before .used2 .ensures) (payload .if3 .left) (plan .plan-for .ensures) stored
 
 pub inspect-spec : {M : Type 1} → statement M

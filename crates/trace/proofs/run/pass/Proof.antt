@@ -8,7 +8,7 @@ use lib.ListN.{length, take}
 use lib.Seq.{length-take-le}
 use borrow.Author.Needs.{needs}
 use Rattle.monitor.specs.Inspect.{storedAt}
-use Rattle.topics.specs.Matching.{portMatches}
+use Rattle.tables.specs.Rules.{ruleMatches}
 use Rattle.monitor.proofs.plan.PlanLaws.{composed}
 use Rattle.monitor.proofs.inspection.ApplyLaws.{stored-yes, stored-no, withClients, withBuckets, withTrackers, stored-all}
 use Rattle.trace.specs.Groups.{topicIn, payloadIn}
@@ -236,21 +236,21 @@ plan-is c =
     let message = at-message gate in
     let read = message .before .before in
     plan-sent _ _ _ (read .read-message .ensures .0) (topic-has message .0) (payload-has message .0)
-    (composed portMatches _ _ _ _ (gate .gate-for .ensures) (seen .seen-for .ensures) (id .id-for .ensures) (spent .spent-for .ensures) (fed .fed-for .ensures)
+    (composed ruleMatches _ _ _ _ (gate .gate-for .ensures) (seen .seen-for .ensures) (id .id-for .ensures) (spent .spent-for .ensures) (fed .fed-for .ensures)
     (c .plan-from .ensures))
 
 -- the state after each store, where the ways from its test meet
 client-is : (c : tie.Joined3 Inv-loop μ-loop)
     → let plan = c .before .before .before in
     let loop = at-loop (at-message (at-gate plan)) in
-    c .if3 .m ≡ withClients (loop .loop .m) (storedAt 16 (loop .loop .m .«client_hashes») (plan .plan-from .result .seen .at) (plan .plan-from .result .seen .entry))
+    c .if3 .m ≡ withClients (loop .loop .m) (storedAt 16 (loop .loop .m .«connect_windows») (plan .plan-from .result .seen .at) (plan .plan-from .result .seen .entry))
 client-is c =
     let plan = c .before .before .before in
     let loop = at-loop (at-message (at-gate plan)) in
     let m = loop .loop .m in
     let d = plan .plan-from .result .seen in
-    ⊎-elim (λ w. stored-yes (withClients m) 16 (m .«client_hashes») (d .at) (d .entry) (w .0 .taken) (w .2))
-    (λ w. stored-no (withClients m) 16 (m .«client_hashes») (d .at) (d .entry) (w .0 .left) (w .1)) (c .if3 .came)
+    ⊎-elim (λ w. stored-yes (withClients m) 16 (m .«connect_windows») (d .at) (d .entry) (w .0 .taken) (w .2))
+    (λ w. stored-no (withClients m) 16 (m .«connect_windows») (d .at) (d .entry) (w .0 .left) (w .1)) (c .if3 .came)
 
 bucket-is : (c : tie.Joined4 Inv-loop μ-loop)
     → let client = c .before .before in

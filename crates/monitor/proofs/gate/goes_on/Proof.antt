@@ -1,7 +1,7 @@
--- `gate::pass` meets its contract: each field is what its call answered. Assumes nothing.
+-- `gate::goes_on` meets its contract: each field is what its call answered. Assumes nothing.
 use borrow.Author.Needs.{needs}
-use Rattle.monitor.proofs.gate.pass.Statement.{statement}
-use Rattle.monitor.proofs.gate.pass.Tie as tie
+use Rattle.monitor.proofs.gate.goes_on.Statement.{statement}
+use Rattle.monitor.proofs.gate.goes_on.Tie as tie
 
 stage-of-requires : tie.Need-stage-of-requires
 stage-of-requires c κs = search needs
@@ -21,8 +21,8 @@ returns c =
     let s = q .before in
     rw (s .stage-of .ensures, q .check-qos-policy .ensures, c .before .rate-of .ensures, c .feeds-tracker .ensures, s .before .pre)
 
-pub pass-spec : {M : Type 1} → statement M
-pass-spec =
+pub goes-on-spec : {M : Type 1} → statement M
+goes-on-spec =
     tie.close
     (tie.spec
     stage-of-requires
