@@ -7,10 +7,15 @@ use monitor::message::MqttPacketType;
 use monitor::plan::plan_for;
 use monitor::state::MqttMonitor;
 use monitor::state::free_rules;
+use tables::buckets::BUCKETS;
 use tables::rules::MqttQoS;
 use tables::rules::QosPolicy;
+use tables::rules::RULES;
 use tables::rules::TopicAction;
 use tables::rules::TopicRule;
+use tables::rules::plan_rule;
+use tables::trackers::TRACKERS;
+use tables::windows::WINDOWS;
 ghost use mathlib.Core.Bool.{cond};
 ghost use mathlib.Core.Path.{_≡_};
 ghost use Prim.Native.Nat.{_+_, _-_, _≤_, min, max};
@@ -83,7 +88,7 @@ fn message_at(topic_len: u8, size: u16, k: u32) -> MqttMessage
 // The rules of a monitor: the first so many places of the table.
 pub struct HeldRules {
     pub rule_count: u16,
-    pub rules: [TopicRule; 32],
+    pub rules: [TopicRule; RULES],
 }
 
 // So many rules that take no topic below `site/+/lamp`, and one last that takes them all. The table is the only part of a monitor that is owned here, and each rule is stored in place.
@@ -178,19 +183,19 @@ pub extern "C" fn hub_loop(rules: u32, topics: &[u8], width: u8, size: u16, mess
         let inspected = count_on(m.total_inspected);
         let seen = plan.seen;
         let seen_at = seen.at;
-        if seen_at < 16 {
+        if seen_at < WINDOWS {
             let entry = seen.entry;
             m.connect_windows[seen_at] = entry;
         }
         let spent = plan.spent;
         let spent_at = spent.at;
-        if spent_at < 32 {
+        if spent_at < BUCKETS {
             let bucket = spent.bucket;
             m.rate_buckets[spent_at] = bucket;
         }
         let fed = plan.fed;
         let fed_at = fed.at;
-        if fed_at < 16 {
+        if fed_at < TRACKERS {
             let tracker = fed.tracker;
             m.ewma_trackers[fed_at] = tracker;
         }

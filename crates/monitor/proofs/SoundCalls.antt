@@ -3,16 +3,15 @@
 use mathlib.Core.Bool.{true, _&&_}
 use mathlib.Core.List.{List}
 use mathlib.Core.Path.{_≡_, refl}
-use Prim.Native.Nat.{ℕ, min}
+use Prim.Native.Nat.{ℕ}
 use native.Mathlib.Omega.{arith}
-use borrow.Author.Tests.{ltb-true, ltb-false, eqb-true, eqb-false}
+use borrow.Author.Tests.{ltb-true, eqb-true}
 use lib.Dec.{eqb, ltb}
-use Rattle.topics.specs.Patterns.{patternRefusal}
 use Rattle.laws.proofs.Tests.{both}
 use Rattle.laws.proofs.Cases.{by}
 use Rattle.tables.specs.Buckets.{bucketFine, emptyBucket, removedBucket}
 use Rattle.tables.specs.Identity.{idOf}
-use Rattle.tables.specs.Rules.{equalRule, ruleFine, noRule, isHeld, rulePlan}
+use Rattle.tables.specs.Rules.{equalRule, ruleFine, noRule, rulePlan}
 use Rattle.tables.specs.Trackers.{trackerFine, emptyTracker, removedTracker}
 use Rattle.tables.specs.Windows.{windowFine}
 use Rattle.tables.specs.declared.buckets.RateBucket.{RateBucket}
@@ -23,6 +22,7 @@ use Rattle.tables.specs.declared.trackers.EwmaTracker.{EwmaTracker}
 use Rattle.tables.specs.declared.windows.ClientStormEntry.{ClientStormEntry}
 use Rattle.monitor.specs.Calls.{fresh, tested, withRule, addRule, removeRule, swapRules, clearRules, setStorm, removeBucket, removeTracker, resetState}
 use Rattle.monitor.specs.Sound.{SoundBuckets, SoundWindows, SoundTrackers, Sound}
+use Rattle.tables.proofs.rules.PlanLaws.{plan-cases}
 use Rattle.laws.specs.Lists.{every}
 use Rattle.monitor.specs.State.{wellFormed, withRules, withSettings, withTables, withCounters, ended}
 use Rattle.monitor.specs.declared.state.MqttMonitor.{MqttMonitor}
@@ -99,20 +99,12 @@ module _ {m : MqttMonitor} (s : Sound m) where
   added : (p : List ℕ) (action : TopicAction) (policy : QosPolicy) (rate : ℕ)
       → rulePlan (m .rules) (m .«rule_count») p action policy rate .number ≡ 0
       → Sound (withRule m (rulePlan (m .rules) (m .«rule_count») p action policy rate))
-  unfolding rulePlan
   added p action policy rate =
-      let at = equalRule p (m .rules) (m .«rule_count») in
-      by (eqb (patternRefusal p) 0)
-      (λ e. rw e
-      (by (isHeld (m .rules) (m .«rule_count») p)
-      (λ f. rw f (λ o. with-rules (rule-overwritten ruled at action policy rate (omega (arith, ltb-true at (min (m .«rule_count») 32) f)))))
-      (λ f. rw f
-      (by (ltb (m .«rule_count») 32)
-      (λ g. rw g (λ o.
-      let room = ltb-true (m .«rule_count») 32 g in
-      with-rules (rule-added ruled p action policy rate (eqb-true _ _ e) room (omega (arith, room, ltb-false at (min (m .«rule_count») 32) f)))))
-      (λ g. rw g (λ o. absurd (omega arith)))))))
-      (λ e. rw e (λ o. absurd (eqb-false _ _ e o)))
+      plan-cases (m .rules) (m .«rule_count») p action policy rate (λ d. d .number ≡ 0 → Sound (withRule m d))
+      (λ n o. absurd (n o))
+      (λ e h o. with-rules (rule-overwritten ruled (equalRule p (m .rules) (m .«rule_count»)) action policy rate (omega (arith, h))))
+      (λ e f room o. with-rules (rule-added ruled p action policy rate e room (omega (arith, room, f))))
+      (λ e h o. absurd (omega arith))
 
   pub sound-add : (p : List ℕ) (action : TopicAction) (policy : QosPolicy) (rate : ℕ) → Sound (addRule m p action policy rate .monitor)
   unfolding addRule

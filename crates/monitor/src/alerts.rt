@@ -4,6 +4,9 @@ ghost use mathlib.Core.Path.{_≡_};
 ghost use lib.ListN.{replicate};
 ghost use Rattle.monitor.specs.Alerts.{severityNumber, severityOf, hashOf, when, kindsOf, idAfter, counted, alertOf, noAlert, noneRaised, raise, raiseAll};
 
+// How many alerts a message can raise.
+pub const ALERTS: usize = 4;
+
 pub enum AlertSeverity {
     Info,
     Low,
@@ -24,13 +27,13 @@ pub struct SecurityAlert {
 pub struct MqttInspectResult {
     pub allowed: bool,
     pub alert_count: u8,
-    pub alerts: [SecurityAlert; 4],
+    pub alerts: [SecurityAlert; ALERTS],
 }
 
 // The alerts of one message, and the counters after them.
 pub struct Raised {
     pub count: u8,
-    pub alerts: [SecurityAlert; 4],
+    pub alerts: [SecurityAlert; ALERTS],
     pub next_id: u64,
     pub total: u64,
 }
@@ -128,11 +131,11 @@ fn no_alert() -> SecurityAlert
 }
 
 // The places of a message's alerts, none of them taken.
-pub(crate) fn no_alerts() -> [SecurityAlert; 4]
+pub(crate) fn no_alerts() -> [SecurityAlert; ALERTS]
     ensures { λ r. ⌜ r ≡ replicate 4 noAlert ⌝ }
 {
     let alert = no_alert();
-    [alert; 4]
+    [alert; ALERTS]
 }
 
 // Where a message's alerts begin.
@@ -152,7 +155,7 @@ fn raise(hash: [u8; 32], timestamp_us: u64, raised: Raised, kind: u32) -> Raised
     ensures { λ r. ⌜ r ≡ raise hash «timestamp_us» raised kind ⌝ }
 {
     let at = raised.count as usize;
-    if 4 <= at {
+    if ALERTS <= at {
         return raised;
     }
     let alert = alert_of(hash, timestamp_us, raised.next_id, kind);

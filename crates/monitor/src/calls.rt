@@ -8,10 +8,12 @@ use crate::state::free_trackers;
 use crate::state::free_windows;
 use crate::state::refused;
 use crate::state::well_formed;
+use tables::buckets::BUCKETS;
 use tables::buckets::empty_bucket;
 use tables::buckets::removed_bucket;
 use tables::identity::id_of;
 use tables::rules::TopicAction;
+use tables::trackers::TRACKERS;
 use tables::trackers::empty_tracker;
 use tables::trackers::removed_tracker;
 ghost use mathlib.Core.Path.{_≡_};
@@ -111,7 +113,7 @@ pub fn remove_rate_bucket(m: MqttMonitor, topic: &[u8]) -> Called
     let id = id_of(topic);
     let buckets = m.rate_buckets;
     let at = removed_bucket(buckets, id);
-    if 32 <= at {
+    if BUCKETS <= at {
         return refused(m, 7);
     }
     let free = empty_bucket();
@@ -130,7 +132,7 @@ pub fn remove_ewma_tracker(m: MqttMonitor, topic: &[u8]) -> Called
     let id = id_of(topic);
     let trackers = m.ewma_trackers;
     let at = removed_tracker(trackers, id);
-    if 16 <= at {
+    if TRACKERS <= at {
         return refused(m, 7);
     }
     let free = empty_tracker();

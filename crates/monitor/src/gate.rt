@@ -2,6 +2,7 @@
 use crate::message::MqttMessage;
 use crate::message::type_number;
 use tables::rules::QosPolicy;
+use tables::rules::RULES;
 use tables::rules::TopicAction;
 use tables::rules::TopicRule;
 use tables::rules::check_qos_policy;
@@ -71,7 +72,12 @@ fn ruled_by_default(action: TopicAction, at: usize) -> Ruling
 }
 
 // The first matching rule, else the default. The search hands over where it finds: a second read of the table would copy it.
-fn rule_for(rules: [TopicRule; 32], count: u16, default_action: TopicAction, topic: &[u8]) -> Ruling
+fn rule_for(
+    rules: [TopicRule; RULES],
+    count: u16,
+    default_action: TopicAction,
+    topic: &[u8],
+) -> Ruling
     ensures { λ r. ⌜ r ≡ rulingOf ruleMatches rules count «default_action» (now (topic .entry)) ⌝ }
 {
     let n = places(count as usize);
@@ -247,7 +253,7 @@ fn gate_after(msg: MqttMessage, number: u8, topic: &[u8], ruling: Ruling) -> Gat
 
 // The gate, in the document's order: other types end; an empty topic is 2; a Publish with zero, `+` or `#` is 9; then the rules decide.
 pub fn gate_for(
-    rules: [TopicRule; 32],
+    rules: [TopicRule; RULES],
     count: u16,
     default_action: TopicAction,
     msg: MqttMessage,

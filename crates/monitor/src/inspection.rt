@@ -4,10 +4,15 @@ use crate::alerts::count_on;
 use crate::alerts::no_alerts;
 use crate::gate::Stage;
 use crate::message::MqttMessage;
+use crate::message::PAYLOAD_MAX;
+use crate::message::TOPIC_MAX;
 use crate::plan::plan_for;
 use crate::state::MqttMonitor;
 use crate::state::Outcome;
 use crate::state::well_formed;
+use tables::buckets::BUCKETS;
+use tables::trackers::TRACKERS;
+use tables::windows::WINDOWS;
 ghost use mathlib.Core.Path.{_≡_};
 ghost use Prim.Native.Nat.{min};
 ghost use Rattle.tables.specs.Rules.{ruleMatches};
@@ -58,11 +63,11 @@ pub fn inspect(m: MqttMonitor, msg: MqttMessage, topic: &[u8], payload: &[u8]) -
     if !well_formed(m) {
         return refused(m, 10);
     }
-    let topic_used = used(msg.topic_len as usize, 128);
+    let topic_used = used(msg.topic_len as usize, TOPIC_MAX);
     if topic.len() < topic_used {
         return refused(m, 9);
     }
-    let payload_used = used(msg.payload_inspectable_len as usize, 256);
+    let payload_used = used(msg.payload_inspectable_len as usize, PAYLOAD_MAX);
     if payload.len() < payload_used {
         return refused(m, 9);
     }
@@ -70,19 +75,19 @@ pub fn inspect(m: MqttMonitor, msg: MqttMessage, topic: &[u8], payload: &[u8]) -
     let mut next = m;
     let seen = plan.seen;
     let seen_at = seen.at;
-    if seen_at < 16 {
+    if seen_at < WINDOWS {
         let entry = seen.entry;
         next.connect_windows[seen_at] = entry;
     }
     let spent = plan.spent;
     let spent_at = spent.at;
-    if spent_at < 32 {
+    if spent_at < BUCKETS {
         let bucket = spent.bucket;
         next.rate_buckets[spent_at] = bucket;
     }
     let fed = plan.fed;
     let fed_at = fed.at;
-    if fed_at < 16 {
+    if fed_at < TRACKERS {
         let tracker = fed.tracker;
         next.ewma_trackers[fed_at] = tracker;
     }

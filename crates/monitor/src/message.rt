@@ -4,6 +4,11 @@ use tables::rules::MqttQoS;
 ghost use mathlib.Core.Path.{_≡_};
 ghost use Rattle.monitor.specs.Message.{typeNumber, typeAt};
 
+// How many bytes of a topic and of a payload are used.
+pub const TOPIC_MAX: usize = 128;
+
+pub const PAYLOAD_MAX: usize = 256;
+
 pub enum MqttPacketType {
     Connect,
     ConnAck,

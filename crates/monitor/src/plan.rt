@@ -10,6 +10,7 @@ use crate::gate::gate_for;
 use crate::message::MqttMessage;
 use crate::message::type_number;
 use crate::state::MqttMonitor;
+use tables::buckets::BUCKETS;
 use tables::buckets::RateBucket;
 use tables::buckets::RateCheckResult;
 use tables::buckets::RateDecision;
@@ -19,11 +20,13 @@ use tables::identity::Id;
 use tables::identity::empty_id;
 use tables::identity::id_of;
 use tables::trackers::EwmaTracker;
+use tables::trackers::TRACKERS;
 use tables::trackers::TrackerDecision;
 use tables::trackers::empty_tracker;
 use tables::trackers::ewma_update;
 use tables::windows::ClientStormEntry;
 use tables::windows::ConnectDecision;
+use tables::windows::WINDOWS;
 use tables::windows::empty_window;
 use tables::windows::record_connect;
 use topics::hashes::client_hashes;
@@ -55,7 +58,7 @@ fn not_connected() -> ConnectDecision
     ensures { λ r. ⌜ r ≡ record { at = 16; entry = emptyWindow; storm = false } ⌝ }
 {
     ConnectDecision {
-        at: 16,
+        at: WINDOWS,
         entry: empty_window(),
         storm: false,
     }
@@ -66,7 +69,7 @@ fn not_limited() -> RateDecision
     ensures { λ r. ⌜ r ≡ record { at = 32; bucket = emptyBucket; result = Allowed } ⌝ }
 {
     RateDecision {
-        at: 32,
+        at: BUCKETS,
         bucket: empty_bucket(),
         result: RateCheckResult::Allowed,
     }
@@ -77,7 +80,7 @@ fn not_fed() -> TrackerDecision
     ensures { λ r. ⌜ r ≡ record { at = 16; tracker = emptyTracker; alert = false } ⌝ }
 {
     TrackerDecision {
-        at: 16,
+        at: TRACKERS,
         tracker: empty_tracker(),
         alert: false,
     }
@@ -143,7 +146,7 @@ fn wants_hash(denial: u32, anomaly: bool) -> bool
 
 // What the CONNECT windows decide.
 pub fn seen_for(
-    clients: [ClientStormEntry; 16],
+    clients: [ClientStormEntry; WINDOWS],
     threshold: u8,
     window_us: u64,
     msg: MqttMessage,
@@ -175,7 +178,7 @@ pub fn id_for(gate: Gate, topic: &[u8]) -> Id
 }
 
 // What the limiter decides.
-pub fn spent_for(buckets: [RateBucket; 32], gate: Gate, id: Id, time: u64) -> RateDecision
+pub fn spent_for(buckets: [RateBucket; BUCKETS], gate: Gate, id: Id, time: u64) -> RateDecision
     ensures { λ r. ⌜ r ≡ spentOf buckets (gate .rate) id time ⌝ }
 {
     if gate.rate == 0 {
@@ -185,7 +188,12 @@ pub fn spent_for(buckets: [RateBucket; 32], gate: Gate, id: Id, time: u64) -> Ra
 }
 
 // What the payload trackers decide.
-pub fn fed_for(trackers: [EwmaTracker; 16], gate: Gate, id: Id, msg: MqttMessage) -> TrackerDecision
+pub fn fed_for(
+    trackers: [EwmaTracker; TRACKERS],
+    gate: Gate,
+    id: Id,
+    msg: MqttMessage,
+) -> TrackerDecision
     ensures { λ r. ⌜ r ≡ fedOf trackers (gate .feeds) id (msg .«payload_len») (msg .«timestamp_us») ⌝ }
 {
     if !gate.feeds {

@@ -8,6 +8,7 @@ use crate::state::free_rules;
 use crate::state::refused;
 use crate::state::well_formed;
 use tables::rules::QosPolicy;
+use tables::rules::RULES;
 use tables::rules::TopicAction;
 use tables::rules::TopicRule;
 use tables::rules::empty_rule;
@@ -61,7 +62,7 @@ pub fn add_rule(
 }
 
 // The rules without the one at a place: later ones move up, and the last place is free.
-fn without(rules: [TopicRule; 32], at: usize, count: usize) -> [TopicRule; 32]
+fn without(rules: [TopicRule; RULES], at: usize, count: usize) -> [TopicRule; RULES]
     requires { ⌜ (at < count) × (count ≤ 32) ⌝ }
     ensures { λ r. ⌜ r ≡ without rules at count ⌝ }
 {

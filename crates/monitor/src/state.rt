@@ -1,16 +1,20 @@
 // The monitor's state, as in the Rust, with a live flag in each record where it has an `Option` (000 `MqttMonitor`). Fields are public, so any state can be
 // handed in: number 10 refuses those that no call hands out.
+use tables::buckets::BUCKETS;
 use tables::buckets::RateBucket;
 use tables::buckets::bucket_fine;
 use tables::buckets::empty_bucket;
+use tables::rules::RULES;
 use tables::rules::TopicAction;
 use tables::rules::TopicRule;
 use tables::rules::empty_rule;
 use tables::rules::rule_fine;
 use tables::trackers::EwmaTracker;
+use tables::trackers::TRACKERS;
 use tables::trackers::empty_tracker;
 use tables::trackers::tracker_fine;
 use tables::windows::ClientStormEntry;
+use tables::windows::WINDOWS;
 use tables::windows::empty_window;
 use tables::windows::window_fine;
 ghost use mathlib.Core.Path.{_≡_};
@@ -24,14 +28,14 @@ ghost use Rattle.laws.specs.Lists.{every};
 ghost use Rattle.monitor.specs.State.{wellFormed};
 
 pub struct MqttMonitor {
-    pub rules: [TopicRule; 32],
+    pub rules: [TopicRule; RULES],
     pub rule_count: u16,
-    pub rate_buckets: [RateBucket; 32],
-    pub connect_windows: [ClientStormEntry; 16],
+    pub rate_buckets: [RateBucket; BUCKETS],
+    pub connect_windows: [ClientStormEntry; WINDOWS],
     pub connect_storm_threshold: u8,
     pub connect_storm_window_us: u64,
     pub default_action: TopicAction,
-    pub ewma_trackers: [EwmaTracker; 16],
+    pub ewma_trackers: [EwmaTracker; TRACKERS],
     pub next_alert_id: u64,
     pub total_inspected: u64,
     pub total_alerts: u64,
@@ -70,7 +74,7 @@ pub(crate) fn done(m: MqttMonitor, value: u16) -> Called
 }
 
 // The first `count` rules are such as `add_rule` leaves.
-fn rules_fine(rules: [TopicRule; 32], count: usize) -> bool
+fn rules_fine(rules: [TopicRule; RULES], count: usize) -> bool
     requires { ⌜ count ≤ 32 ⌝ }
     ensures { λ r. ⌜ r ≡ every ruleFine (take count rules) ⌝ }
 {
@@ -86,11 +90,11 @@ fn rules_fine(rules: [TopicRule; 32], count: usize) -> bool
 }
 
 // No live bucket has a prefix length over 32.
-fn buckets_fine(buckets: [RateBucket; 32]) -> bool
+fn buckets_fine(buckets: [RateBucket; BUCKETS]) -> bool
     ensures { λ r. ⌜ r ≡ every bucketFine buckets ⌝ }
 {
     let mut i = 0;
-    while i < 32 {
+    while i < BUCKETS {
         let bucket = buckets[i];
         if !bucket_fine(bucket) {
             return false;
@@ -101,11 +105,11 @@ fn buckets_fine(buckets: [RateBucket; 32]) -> bool
 }
 
 // No live window has a count over 16.
-fn windows_fine(clients: [ClientStormEntry; 16]) -> bool
+fn windows_fine(clients: [ClientStormEntry; WINDOWS]) -> bool
     ensures { λ r. ⌜ r ≡ every windowFine clients ⌝ }
 {
     let mut i = 0;
-    while i < 16 {
+    while i < WINDOWS {
         let entry = clients[i];
         if !window_fine(entry) {
             return false;
@@ -116,11 +120,11 @@ fn windows_fine(clients: [ClientStormEntry; 16]) -> bool
 }
 
 // No live tracker has a prefix length over 32.
-fn trackers_fine(trackers: [EwmaTracker; 16]) -> bool
+fn trackers_fine(trackers: [EwmaTracker; TRACKERS]) -> bool
     ensures { λ r. ⌜ r ≡ every trackerFine trackers ⌝ }
 {
     let mut i = 0;
-    while i < 16 {
+    while i < TRACKERS {
         let tracker = trackers[i];
         if !tracker_fine(tracker) {
             return false;
@@ -135,7 +139,7 @@ pub fn well_formed(m: MqttMonitor) -> bool
     ensures { λ r. ⌜ r ≡ wellFormed m ⌝ }
 {
     let count = m.rule_count as usize;
-    if 32 < count {
+    if RULES < count {
         return false;
     }
     let rules = m.rules;
@@ -155,33 +159,33 @@ pub fn well_formed(m: MqttMonitor) -> bool
 }
 
 // A table without rules.
-pub fn free_rules() -> [TopicRule; 32]
+pub fn free_rules() -> [TopicRule; RULES]
     ensures { λ r. ⌜ r ≡ replicate 32 emptyRule ⌝ }
 {
     let rule = empty_rule();
-    [rule; 32]
+    [rule; RULES]
 }
 
 // A table of free buckets.
-pub(crate) fn free_buckets() -> [RateBucket; 32]
+pub(crate) fn free_buckets() -> [RateBucket; BUCKETS]
     ensures { λ r. ⌜ r ≡ replicate 32 emptyBucket ⌝ }
 {
     let bucket = empty_bucket();
-    [bucket; 32]
+    [bucket; BUCKETS]
 }
 
 // A table of free CONNECT windows.
-pub(crate) fn free_windows() -> [ClientStormEntry; 16]
+pub(crate) fn free_windows() -> [ClientStormEntry; WINDOWS]
     ensures { λ r. ⌜ r ≡ replicate 16 emptyWindow ⌝ }
 {
     let entry = empty_window();
-    [entry; 16]
+    [entry; WINDOWS]
 }
 
 // A table of free trackers.
-pub(crate) fn free_trackers() -> [EwmaTracker; 16]
+pub(crate) fn free_trackers() -> [EwmaTracker; TRACKERS]
     ensures { λ r. ⌜ r ≡ replicate 16 emptyTracker ⌝ }
 {
     let tracker = empty_tracker();
-    [tracker; 16]
+    [tracker; TRACKERS]
 }

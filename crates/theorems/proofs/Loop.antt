@@ -24,6 +24,7 @@ use Rattle.monitor.specs.declared.state.MqttMonitor.{MqttMonitor}
 use Rattle.monitor.proofs.state.KeptFormed.{kept-formed}
 use Rattle.monitor.proofs.Prepared.{prepared-sound}
 use Rattle.monitor.proofs.Replies.{exact-done}
+use Rattle.loops.proofs.inspections.LoopLaws.{readied-prepared}
 use Rattle.loops.specs.Inspections.{patternAt, fromAt, ruled, readied, planAt, stateAfter, allowedAfter}
 use Rattle.loops.proofs.inspections.LoopLaws.{next-within, all-run}
 use Rattle.theorems.specs.Printed.{passed, callAt, callsTo, loopReplies, LoopLimits}
@@ -67,14 +68,6 @@ in-order (d ∷ []) c o p = later (p .0) (single c)
 in-order (d ∷ e ∷ cs) c (later h o) p = later h (in-order (e ∷ cs) c o (p .1))
 
 -- its monitor is a fresh one with rules
-ruled-prepared : (k : ℕ) → Prepared (ruled k)
-unfolding ruled
-ruled-prepared zero = made Block
-ruled-prepared (suc k) = rule (ruled-prepared k) (patternAt k) Allow (MinQoS AtLeastOnce) 65535
-
-readied-prepared : (n : ℕ) → Prepared (readied n)
-readied-prepared n = rule (ruled-prepared n) (bytes "site/+/lamp/+") Allow (MinQoS AtLeastOnce) 65535
-
 -- a topic that begins where it should lies inside
 from-within : (long width k : ℕ) → width ≤ long → fromAt long width k + width ≤ long
 unfolding fromAt

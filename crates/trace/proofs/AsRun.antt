@@ -25,31 +25,12 @@ use Rattle.trace.specs.Record.{recordText, closingText}
 use Rattle.trace.specs.Trace.{Messages, Loaded, ruleInto, rulesInto, loadedFrom, loaded, messagesFrom, messagesOf, planned, textFrom, traceText}
 use Rattle.trace.specs.declared.groups.RuleLines.{RuleLines}
 use Rattle.trace.proofs.groups.GroupLaws.{message-within}
+use Rattle.trace.proofs.run.LoadLaws.{loaded-holds}
 use Rattle.trace.proofs.run.RunLaws.{sentAt}
 
--- only rules are added to a fresh monitor
-rule-prepared : (m : MqttMonitor) (s : List ℕ) (line : ℕ) (r : RuleLines) → Prepared m → Prepared (ruleInto m s line r .monitor)
-unfolding ruleInto
-rule-prepared m s line r p = whichever (λ (l : Loaded). Prepared (l .monitor)) (eqb (r .number) 0) (rule p _ _ _ _) p
-
-rules-prepared : (k : ℕ) (s : List ℕ) (l : Loaded) → Prepared (l .monitor) → Prepared (rulesInto k s l .monitor)
-unfolding rulesInto
-rules-prepared zero s l p = p
-rules-prepared (suc k) s l p =
-    let next : Loaded = ruleInto (l .monitor) s (l .line) (ruleAt s (l .next)) in
-    whichever (λ (x : Loaded). Prepared (x .monitor)) (eqb (l .number) 0)
-    (rules-prepared k s next (rule-prepared (l .monitor) s (l .line) (ruleAt s (l .next)) p))
-    p
-
+-- the loaded monitor is a fresh one with rules
 pub loaded-prepared : (s : List ℕ) → Prepared (loaded s .monitor)
-unfolding loaded loadedFrom
-loaded-prepared s =
-    let o = openingOf s in
-    whichever (λ (l : Loaded). Prepared (l .monitor)) (leb (length s) 65536)
-    (whichever (λ (l : Loaded). Prepared (l .monitor)) (eqb (o .number) 0)
-    (rules-prepared (o .rules) s _ (made (o .«default_action»)))
-    (made _))
-    (made _)
+loaded-prepared s = loaded-holds Prepared made (λ m p action policy rate h. rule h p action policy rate) s
 
 -- all calls of a list lend exactly what their messages use
 abbrev pub AllExact : List Call → Type 0

@@ -3,24 +3,23 @@
 -- an opening that was read takes 16. Assumes nothing.
 use Prim.Native.Nat.{ℕ, zero, suc, _+_, _-_, _*_, _^_, _≤_, _<_}
 use mathlib.Core.Path.{_≡_, refl}
-use mathlib.Core.Bool.{_&&_}
 use mathlib.Core.List.{List, [], _∷_}
 use native.Mathlib.Omega.{arith}
-use lib.Dec.{eqb, leb, ltb}
+use lib.Dec.{eqb, leb}
 use lib.ListN.{length, length-append}
 use borrow.Author.Tests.{eqb-true, eqb-false, leb-true, leb-false}
-use Rattle.topics.specs.Levels.{levels}
-use Rattle.slices.specs.Bytes.{has, countOf}
-use Rattle.tables.specs.Rules.{ruleMatches, isHeld, rulePlan}
-use Rattle.topics.specs.Patterns.{wellPlaced, patternRefusal}
+use Rattle.tables.specs.Rules.{ruleMatches, rulePlan}
+use Rattle.topics.specs.Patterns.{patternRefusal}
+use mathlib.Core.Logic.{_⊎_, inl, inr}
+use Rattle.topics.proofs.patterns.PatternLaws.{refusal-number}
 use Rattle.laws.proofs.Cases.{by, whichever}
+use Rattle.tables.proofs.rules.PlanLaws.{plan-cases}
 use Rattle.tables.specs.declared.rules.QosPolicy.{QosPolicy}
 use Rattle.tables.specs.declared.rules.TopicAction.{TopicAction}
 use Rattle.tables.specs.declared.rules.TopicRule.{TopicRule}
 use Rattle.monitor.specs.Calls.{fresh, tested, addRule}
 use Rattle.monitor.specs.Runs.{Call}
 use Rattle.monitor.specs.State.{wellFormed, numberOf}
-use Rattle.tables.specs.declared.rules.RulePlan.{RulePlan}
 use Rattle.monitor.specs.declared.state.Called.{Called}
 use Rattle.monitor.specs.declared.state.MqttMonitor.{MqttMonitor}
 use Rattle.trace.specs.Groups.{openingOf, ruleAt, messageAt}
@@ -69,19 +68,15 @@ add-counted m p action policy rate c =
     c
 
 pattern-known : (p : List ℕ) → patternRefusal p ≤ 27
-unfolding patternRefusal
-pattern-known p =
-    whichever (λ (n : ℕ). n ≤ 27) (leb 1 (length p) && leb (length p) 64)
-    (whichever (λ (n : ℕ). n ≤ 27) (has 0 p) (omega arith)
-    (whichever (λ (n : ℕ). n ≤ 27) (leb (countOf 43 p) 3) (whichever (λ (n : ℕ). n ≤ 27) (wellPlaced (levels p)) (omega arith) (omega arith)) (omega arith)))
-    (omega arith)
+pattern-known p = go (refusal-number p)
+  where
+    go : (patternRefusal p ≡ 0) ⊎ (patternRefusal p ≡ 9) → patternRefusal p ≤ 27
+    go (inl e) = omega (arith, e)
+    go (inr e) = omega (arith, e)
 
 plan-known : (rules : List TopicRule) (n : ℕ) (p : List ℕ) (action : TopicAction) (policy : QosPolicy) (rate : ℕ) → rulePlan rules n p action policy rate .number ≤ 27
-unfolding rulePlan
 plan-known rules n p action policy rate =
-    whichever (λ (d : RulePlan). d .number ≤ 27) (eqb (patternRefusal p) 0)
-    (whichever (λ (d : RulePlan). d .number ≤ 27) (isHeld rules n p) (omega arith) (whichever (λ (d : RulePlan). d .number ≤ 27) (ltb n 32) (omega arith) (omega arith)))
-    (pattern-known p)
+    plan-cases rules n p action policy rate (λ d. d .number ≤ 27) (λ o. pattern-known p) (λ z h. omega arith) (λ z f h. omega arith) (λ z h. omega arith)
 
 add-known : (m : MqttMonitor) (p : List ℕ) (action : TopicAction) (policy : QosPolicy) (rate : ℕ) → numberOf (addRule m p action policy rate .outcome) ≤ 27
 unfolding addRule

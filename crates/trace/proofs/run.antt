@@ -1,3 +1,3 @@
 mod BufferLaws
-mod LoadLaws
+pub mod LoadLaws
 pub mod RunLaws

@@ -12,9 +12,11 @@ use Rattle.lines.specs.Field.{numberField, wordField, hexField, hexKept}
 use Rattle.lines.specs.ReadHex.{unhex}
 use Rattle.lines.specs.Span.{part}
 use Rattle.lines.specs.declared.read.Field.{Field}
+use Rattle.tables.specs.Numbers.{actionAt, qosAt, policyAt}
 use Rattle.tables.specs.declared.rules.MqttQoS.the-variants.{AtMostOnce}
 use Rattle.tables.specs.declared.rules.QosPolicy.the-variants.{Any}
 use Rattle.tables.specs.declared.rules.TopicAction.the-variants.{Allow}
+use Rattle.monitor.specs.Message.{typeAt}
 use Rattle.monitor.specs.declared.message.MqttMessage.{MqttMessage}
 use Rattle.monitor.specs.declared.message.MqttPacketType.the-variants.{Connect}
 use Rattle.trace.specs.declared.groups.OpeningLines.{OpeningLines}

@@ -5,9 +5,15 @@ use lines::read::number_field;
 use lines::read::word_field;
 use monitor::message::MqttMessage;
 use monitor::message::MqttPacketType;
+use monitor::message::PAYLOAD_MAX;
+use monitor::message::TOPIC_MAX;
+use monitor::message::type_at;
 use tables::rules::MqttQoS;
 use tables::rules::QosPolicy;
 use tables::rules::TopicAction;
+use tables::rules::action_at;
+use tables::rules::policy_at;
+use tables::rules::qos_at;
 ghost use mathlib.Core.Path.{_≡_};
 ghost use Rattle.trace.specs.Groups.{openingStopped, openingOf, OpeningIn, ruleStopped, ruleAt, patternKept, RuleIn, messageStopped, messageAt, topicKept, payloadKept, MessageIn};
 
@@ -97,7 +103,7 @@ fn rule_stopped(field: Field, line: u32) -> RuleLines
 }
 
 // The rule at a place of the text: `pattern=`, whose bytes go to a lent buffer, `action=`, `qos=` and `rate=`.
-pub fn read_rule(text: &[u8], at: usize, pattern: &mut [u8; 128]) -> RuleLines
+pub fn read_rule(text: &[u8], at: usize, pattern: &mut [u8; TOPIC_MAX]) -> RuleLines
     ensures { λ r. ⌜ r ≡ ruleAt (now (text .entry)) at ⌝ }
     ensures within { λ r. ⌜ RuleIn (now (text .entry)) r ⌝ }
     ensures kept { λ _. ⌜ now (pattern .exit) ≡ patternKept (now (text .entry)) at (now (pattern .entry)) ⌝ }
@@ -165,8 +171,8 @@ fn message_stopped(field: Field, line: u32) -> MessageLines
 pub fn read_message(
     text: &[u8],
     at: usize,
-    topic: &mut [u8; 128],
-    payload: &mut [u8; 256],
+    topic: &mut [u8; TOPIC_MAX],
+    payload: &mut [u8; PAYLOAD_MAX],
 ) -> MessageLines
     ensures { λ r. ⌜ r ≡ messageAt (now (text .entry)) at ⌝ }
     ensures within { λ r. ⌜ MessageIn (now (text .entry)) r ⌝ }

@@ -5,6 +5,7 @@ use lines::lengths::number_line_len;
 use lines::put::put_flag_line;
 use lines::put::put_hex_line;
 use lines::put::put_number_line;
+use monitor::alerts::ALERTS;
 use monitor::alerts::MqttInspectResult;
 use monitor::alerts::SecurityAlert;
 use monitor::alerts::severity_number;
@@ -34,12 +35,12 @@ fn put_alert(out: &mut [u8], at: usize, alert: SecurityAlert) -> usize
 }
 
 // The first `count` alerts, one after the other.
-fn put_alerts(out: &mut [u8], at: usize, alerts: [SecurityAlert; 4], count: usize) -> usize
+fn put_alerts(out: &mut [u8], at: usize, alerts: [SecurityAlert; ALERTS], count: usize) -> usize
     ensures { λ r. ⌜ Wrote (now (out .entry)) (now (out .exit)) at (alertsText (take count alerts)) r ⌝ }
 {
     let mut p = at;
     let mut i = 0;
-    while i < 4 {
+    while i < ALERTS {
         if count <= i {
             return p;
         }
@@ -94,12 +95,12 @@ fn alert_len(alert: SecurityAlert) -> usize
 }
 
 // The length of the first `count` alerts.
-fn alerts_len(alerts: [SecurityAlert; 4], count: usize) -> usize
+fn alerts_len(alerts: [SecurityAlert; ALERTS], count: usize) -> usize
     ensures { λ r. ⌜ (r ≡ length (alertsText (take count alerts))) × (r ≤ 484) ⌝ }
 {
     let mut p: usize = 0;
     let mut i = 0;
-    while i < 4 {
+    while i < ALERTS {
         if count <= i {
             return p;
         }

@@ -12,6 +12,8 @@ use monitor::alerts::count_on;
 use monitor::calls::new;
 use monitor::calls::new_deny_default;
 use monitor::gate::gate_for;
+use monitor::message::PAYLOAD_MAX;
+use monitor::message::TOPIC_MAX;
 use monitor::plan::fed_for;
 use monitor::plan::id_for;
 use monitor::plan::plan_from;
@@ -19,8 +21,13 @@ use monitor::plan::seen_for;
 use monitor::plan::spent_for;
 use monitor::state::MqttMonitor;
 use monitor::state::free_rules;
+use tables::buckets::BUCKETS;
+use tables::rules::RULES;
 use tables::rules::TopicAction;
 use tables::rules::TopicRule;
+use tables::rules::plan_rule;
+use tables::trackers::TRACKERS;
+use tables::windows::WINDOWS;
 ghost use mathlib.Core.Bool.{true, _&&_};
 ghost use mathlib.Core.Path.{_≡_};
 ghost use Prim.Native.Nat.{_+_, _*_, _≤_};
@@ -29,6 +36,9 @@ ghost use lib.ListN.{length};
 ghost use Rattle.monitor.specs.Calls.{fresh};
 ghost use Rattle.trace.specs.Record.{recordText, closingText};
 ghost use Rattle.trace.specs.Trace.{loaded, rulesOf, traceText, enough, putIf, wholeEnd, traceEnd, traceKept};
+
+// How long a text may be.
+const TEXT_MAX: usize = 65536;
 
 // How a trace ended: 0 is whole, else the number that refused it, with the last or refused line and how many bytes were written; 28 writes nothing.
 #[repr(C)]
@@ -45,7 +55,7 @@ pub struct LoadedRules {
     pub next: usize,
     pub default_action: TopicAction,
     pub rule_count: u16,
-    pub rules: [TopicRule; 32],
+    pub rules: [TopicRule; RULES],
 }
 
 // A monitor without rules, by its default.
@@ -59,17 +69,17 @@ fn started(default_action: TopicAction) -> MqttMonitor
 }
 
 // A buffer for a pattern or a topic.
-fn buffer_128() -> [u8; 128]
+fn buffer_128() -> [u8; TOPIC_MAX]
     ensures { λ r. ⌜ length r ≡ 128 ⌝ }
 {
-    [0; 128]
+    [0; TOPIC_MAX]
 }
 
 // A buffer for a payload.
-fn buffer_256() -> [u8; 256]
+fn buffer_256() -> [u8; PAYLOAD_MAX]
     ensures { λ r. ⌜ length r ≡ 256 ⌝ }
 {
-    [0; 256]
+    [0; PAYLOAD_MAX]
 }
 
 // The opening and its rules. 27 is tested first; a rule that is refused gives its number at its `rate=` line, and rules before it stay loaded. The table of rules is
@@ -79,7 +89,7 @@ pub fn load(text: &[u8]) -> LoadedRules
 {
     let mut rules = free_rules();
     let mut rule_count = 0;
-    if 65536 < text.len() {
+    if TEXT_MAX < text.len() {
         return LoadedRules {
             number: 27,
             line: 0,
@@ -274,19 +284,19 @@ fn pass(text: &[u8], out: &mut [u8], write: bool) -> TraceEnd
         let inspected = count_on(m.total_inspected);
         let seen = plan.seen;
         let seen_at = seen.at;
-        if seen_at < 16 {
+        if seen_at < WINDOWS {
             let entry = seen.entry;
             m.connect_windows[seen_at] = entry;
         }
         let spent = plan.spent;
         let spent_at = spent.at;
-        if spent_at < 32 {
+        if spent_at < BUCKETS {
             let bucket = spent.bucket;
             m.rate_buckets[spent_at] = bucket;
         }
         let fed = plan.fed;
         let fed_at = fed.at;
-        if fed_at < 16 {
+        if fed_at < TRACKERS {
             let tracker = fed.tracker;
             m.ewma_trackers[fed_at] = tracker;
         }

@@ -16,7 +16,7 @@ upto-requires c κs = search needs
 
 returns : tie.Need-returns
 returns c =
-    rw (← c .before .before .find-byte .ensures, c .upto .ensures, drop-of-length-le (c .before .before .before .before .args .s .now) {i = c .before .before .find-byte .result + 1} (omega arith))
+    rw (← c .before .before .find-byte .ensures .0, c .upto .ensures, drop-of-length-le (c .before .before .before .before .args .s .now) {i = c .before .before .find-byte .result + 1} (omega arith))
     (refl, omega arith)
 
 add-from : tie.Need-add-from
@@ -36,7 +36,7 @@ returns-2 c =
     let s = c .before .before .before .before .args .s .now in
     let k = c .before .before .find-byte .result + 1 in
     let e = take-all (length s - k) (drop k s) (rw (length-drop k s) (omega arith)) in
-    rw (← c .before .before .find-byte .ensures, e, length-drop k s) (refl, omega arith)
+    rw (← c .before .before .find-byte .ensures .0, e, length-drop k s) (refl, omega arith)
 
 pub after-spec : {M : Type 1} → statement M
 after-spec =

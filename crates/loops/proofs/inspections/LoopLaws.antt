@@ -29,27 +29,32 @@ use Rattle.tables.specs.declared.rules.RulePlan.{RulePlan}
 use Rattle.monitor.specs.declared.state.MqttMonitor.{MqttMonitor}
 use Rattle.monitor.proofs.rule_calls.AddLaws.{add-takes, add-leaves}
 use Rattle.monitor.proofs.PlainLaws.{holding, no-rules, Plain, fresh-plain, add-plain, add-default}
-use Rattle.monitor.proofs.SoundCalls.{sound-fresh, sound-add}
+use Rattle.monitor.specs.Prepared.{Prepared, made, rule}
+use Rattle.monitor.proofs.Prepared.{prepared-sound}
 use Rattle.loops.specs.Inspections.{patternAt, nextFrom, fromAt, loopMessage, withPattern, ruled, readied, heldRules, stateAfter, allowedAfter, loopAllowed}
 use Rattle.loops.specs.declared.inspections.HeldRules.{HeldRules}
 
--- a state with rules is sound
-ruled-sound : (k : ℕ) → Sound (ruled k)
+-- what a fresh monitor has, and each of the loop's rules leaves, the monitor with rules has
+ruled-holds : (P : MqttMonitor → Type 0) → P (fresh Block) → ((m : MqttMonitor) (p : List ℕ) → P m → P (withPattern m p)) → (k : ℕ) → P (ruled k)
 unfolding ruled
-ruled-sound zero = sound-fresh Block
-ruled-sound (suc k) = sound-add (ruled-sound k) (patternAt k) Allow (MinQoS AtLeastOnce) 65535
+ruled-holds P begins goes-on zero = begins
+ruled-holds P begins goes-on (suc k) = goes-on (ruled k) (patternAt k) (ruled-holds P begins goes-on k)
+
+-- it is a fresh one with rules
+ruled-prepared : (k : ℕ) → Prepared (ruled k)
+ruled-prepared k = ruled-holds Prepared (made Block) (λ m p h. rule h p Allow (MinQoS AtLeastOnce) 65535) k
+
+pub readied-prepared : (n : ℕ) → Prepared (readied n)
+readied-prepared n = rule (ruled-prepared n) (bytes "site/+/lamp/+") Allow (MinQoS AtLeastOnce) 65535
 
 -- it has nothing but them
 ruled-plain : (k : ℕ) → Plain (ruled k)
-unfolding ruled
-ruled-plain zero = fresh-plain Block
-ruled-plain (suc k) = add-plain (ruled k) (patternAt k) Allow (MinQoS AtLeastOnce) 65535 (ruled-plain k)
+ruled-plain k = ruled-holds Plain (fresh-plain Block) (λ m p h. add-plain m p Allow (MinQoS AtLeastOnce) 65535 h) k
 
 -- and blocks by default
 ruled-blocks : (k : ℕ) → ruled k .«default_action» ≡ Block
-unfolding ruled fresh
-ruled-blocks zero = refl
-ruled-blocks (suc k) = add-default (ruled k) (patternAt k) Allow (MinQoS AtLeastOnce) 65535 ∙ ruled-blocks k
+unfolding fresh
+ruled-blocks k = ruled-holds (λ m. m .«default_action» ≡ Block) refl (λ m p h. add-default m p Allow (MinQoS AtLeastOnce) 65535 ∙ h) k
 
 -- so a fresh monitor that gets all the rules is the one that is wanted
 pub held-start : (n : ℕ) {m : MqttMonitor} {held : HeldRules} → m ≡ fresh Block → held ≡ heldRules (readied n) → withRules m (held .rules) (held .«rule_count») ≡ readied n
@@ -67,7 +72,7 @@ ruled-none e = rw e (no-rules Block)
 module _ (k : ℕ) {rules : List TopicRule} {n : ℕ} (em : holding Block rules n ≡ ruled k) (p : List ℕ) {plan : RulePlan} (e : plan ≡ rulePlan rules n p Allow (MinQoS AtLeastOnce) 65535) where
   -- number 10 does not come up
   formed : wellFormed (holding Block rules n) ≡ true
-  formed = rw em (ruled-sound k .formed)
+  formed = rw em (prepared-sound (ruled-prepared k) .formed)
 
   -- it is stored
   pub rule-taken : plan .number ≡ 0 → holding Block (set rules (plan .at) (plan .rule)) (plan .count) ≡ withPattern (ruled k) p

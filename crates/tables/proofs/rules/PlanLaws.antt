@@ -4,11 +4,11 @@ use mathlib.Core.List.{List}
 use mathlib.Core.Path.{_≡_, sym, _∙_}
 use Prim.Native.Nat.{ℕ, _+_, _≤_, _<_, min}
 use native.Mathlib.Omega.{arith}
-use borrow.Author.Tests.{lt-ltb, le-ltb, ltb-true, ltb-false, eq-eqb, ne-eqb, eqb-false}
+use borrow.Author.Tests.{lt-ltb, le-ltb, ltb-true, ltb-false, eq-eqb, ne-eqb, eqb-true, eqb-false}
 use lib.Dec.{eqb, ltb}
 use lib.ListN.{getD}
 use Rattle.topics.specs.Patterns.{patternRefusal}
-use Rattle.laws.proofs.Cases.{by}
+use Rattle.laws.proofs.Cases.{by, choose}
 use Rattle.tables.specs.Rules.{equalRule, noRule}
 use Rattle.tables.specs.declared.rules.QosPolicy.{QosPolicy}
 use Rattle.tables.specs.declared.rules.TopicAction.{TopicAction}
@@ -60,15 +60,23 @@ module _ (rules : List TopicRule) (n : ℕ) (p : List ℕ) (action : TopicAction
       unfolding rulePlan
       plan-new h room = rw (right, told h, lt-ltb n 32 room)
 
-  place : rulePlan rules n p action policy rate .number ≡ 0 → rulePlan rules n p action policy rate .at < 32
+  -- what holds of each way's plan holds of the plan: whoever reasons about `rulePlan` goes by these four and never opens it
+  pub plan-cases : (P : RulePlan → Type 0) → ((patternRefusal p ≡ 0 → ⊥) → P (notTaken (patternRefusal p) n))
+      → (patternRefusal p ≡ 0 → equalRule p rules n < min n 32
+      → P (record { number = 0; at = equalRule p rules n; rule = overwritten (getD rules (equalRule p rules n) noRule) action policy rate; count = n }))
+      → (patternRefusal p ≡ 0 → min n 32 ≤ equalRule p rules n → n < 32 → P (record { number = 0; at = n; rule = ruleOf p action policy rate; count = n + 1 }))
+      → (patternRefusal p ≡ 0 → 32 ≤ n → P (notTaken 6 n)) → P (rulePlan rules n p action policy rate)
   unfolding rulePlan
+  plan-cases P own held new full =
+      choose P (eqb (patternRefusal p) 0)
+      (λ e. let z = eqb-true _ _ e in
+      choose P (isHeld rules n p) (λ f. held z (ltb-true _ _ f))
+      (λ f. choose P (ltb n 32) (λ g. new z (ltb-false _ _ f) (ltb-true _ _ g)) (λ g. full z (ltb-false _ _ g))))
+      (λ e. own (eqb-false _ _ e))
+
+  place : rulePlan rules n p action policy rate .number ≡ 0 → rulePlan rules n p action policy rate .at < 32
   place =
-      by (eqb (patternRefusal p) 0)
-      (λ e. rw e
-      (by (isHeld rules n p)
-      (λ f. rw f (λ o. omega (arith, ltb-true (equalRule p rules n) (min n 32) f)))
-      (λ f. rw f (by (ltb n 32) (λ g. rw g (λ o. ltb-true _ _ g)) (λ g. rw g (λ o. absurd (omega arith)))))))
-      (λ e. rw e (λ o. absurd (eqb-false _ _ e o)))
+      plan-cases (λ d. d .number ≡ 0 → d .at < 32) (λ o z. absurd (o z)) (λ z h o. omega (arith, h)) (λ z f h o. h) (λ z h o. absurd (omega arith))
 
   -- a rule that is taken has a place
   pub plan-place : {plan : RulePlan} → plan ≡ rulePlan rules n p action policy rate → plan .number ≡ 0 → plan .at < 32

@@ -17,6 +17,7 @@ use Rattle.tables.specs.declared.rules.TopicRule.{TopicRule}
 use Rattle.monitor.specs.Calls.{fresh, addRule}
 use Rattle.monitor.specs.Sound.{Sound}
 use Rattle.monitor.specs.State.{withRules}
+use Rattle.tables.specs.declared.rules.QosPolicy.{QosPolicy}
 use Rattle.tables.specs.declared.rules.RulePlan.{RulePlan}
 use Rattle.monitor.specs.declared.state.MqttMonitor.{MqttMonitor}
 use Rattle.monitor.proofs.rule_calls.AddLaws.{add-number, add-takes, add-leaves}
@@ -42,28 +43,34 @@ unfolding rulesInto
 rules-turn zero s l h z = absurd (omega arith)
 rules-turn (suc k) s l h z = rw (eq-eqb _ _ z, sub-one)
 
--- only rules are added to a fresh monitor
-rule-plain : (m : MqttMonitor) (s : List ℕ) (line : ℕ) (r : RuleLines) → Plain m → Plain (ruleInto m s line r .monitor)
-unfolding ruleInto
-rule-plain m s line r h = whichever (λ (l : Loaded). Plain (l .monitor)) (eqb (r .number) 0) (add-plain m _ _ _ _ h) h
+-- a fresh monitor, and then only rules: what the first has, and each rule that is added or refused leaves, the loaded monitor has
+module _ (P : MqttMonitor → Type 0) (begins : (default : TopicAction) → P (fresh default))
+    (goes-on : (m : MqttMonitor) (p : List ℕ) (action : TopicAction) (policy : QosPolicy) (rate : ℕ) → P m → P (addRule m p action policy rate .monitor)) where
+  abbrev Holds : Loaded → Type 0
+  Holds l = P (l .monitor)
 
-rules-plain : (k : ℕ) (s : List ℕ) (l : Loaded) → Plain (l .monitor) → Plain (rulesInto k s l .monitor)
-unfolding rulesInto
-rules-plain zero s l h = h
-rules-plain (suc k) s l h =
-    whichever (λ (x : Loaded). Plain (x .monitor)) (eqb (l .number) 0)
-    (rules-plain k s (ruleInto (l .monitor) s (l .line) (ruleAt s (l .next))) (rule-plain (l .monitor) s (l .line) (ruleAt s (l .next)) h))
-    h
+  rule-holds : (m : MqttMonitor) (s : List ℕ) (line : ℕ) (r : RuleLines) → P m → Holds (ruleInto m s line r)
+  unfolding ruleInto
+  rule-holds m s line r h = whichever Holds (eqb (r .number) 0) (goes-on m _ _ _ _ h) h
+
+  rules-hold : (k : ℕ) (s : List ℕ) (l : Loaded) → Holds l → Holds (rulesInto k s l)
+  unfolding rulesInto
+  rules-hold zero s l h = h
+  rules-hold (suc k) s l h =
+      let next : Loaded = ruleInto (l .monitor) s (l .line) (ruleAt s (l .next)) in
+      whichever Holds (eqb (l .number) 0) (rules-hold k s next (rule-holds (l .monitor) s (l .line) (ruleAt s (l .next)) h)) h
+
+  pub loaded-holds : (s : List ℕ) → P (loaded s .monitor)
+  unfolding loaded loadedFrom
+  loaded-holds s =
+      let o = openingOf s in
+      whichever Holds (leb (length s) 65536)
+      (whichever Holds (eqb (o .number) 0) (rules-hold (o .rules) s (notLoaded 0 2 (o .next) (fresh (o .«default_action»))) (begins _)) (begins _))
+      (begins _)
 
 -- the monitor that is loaded is a fresh one with the rules
 pub loaded-monitor : (s : List ℕ) → withRules (fresh (loaded s .monitor .«default_action»)) (loaded s .monitor .rules) (loaded s .monitor .«rule_count») ≡ loaded s .monitor
-unfolding loaded loadedFrom
-loaded-monitor s =
-    whichever (λ (l : Loaded). Plain (l .monitor)) (leb (length s) 65536)
-    (whichever (λ (l : Loaded). Plain (l .monitor)) (eqb (openingOf s .number) 0)
-    (rules-plain (openingOf s .rules) s (notLoaded 0 2 (openingOf s .next) (fresh (openingOf s .«default_action»))) (fresh-plain _))
-    (fresh-plain _))
-    (fresh-plain _)
+loaded-monitor s = loaded-holds Plain fresh-plain add-plain s
 
 -- what a table of rules says of what is loaded
 abbrev table : ℕ → ℕ → ℕ → TopicAction → List TopicRule → ℕ → LoadedRules

@@ -13,6 +13,7 @@ use borrow.Author.Tests.{eqb-true, eq-eqb, ne-eqb, le-leb, lt-leb, leb-false}
 use Rattle.tables.specs.Rules.{ruleMatches}
 use Rattle.lines.specs.Wrote.{Wrote, placeAfter}
 use Rattle.laws.proofs.Cases.{by}
+use Rattle.laws.proofs.Fuel.{fuel}
 use Rattle.lines.proofs.put.WroteLaws.{wrote-then}
 use Rattle.monitor.specs.Calls.{fresh}
 use Rattle.monitor.specs.Inspect.{applied, resultOf}
@@ -36,19 +37,20 @@ pub read-further : (s : List ℕ) (at : ℕ) {r : MessageLines} → r ≡ messag
 read-further s at e z = rw e (message-further s at (rw e at z))
 
 -- any count of messages that is more than the bytes left gives the same
-fuel : (k j : ℕ) (s : List ℕ) (at line : ℕ) → length s - at < k → length s - at < j → messagesFrom k s at line ≡ messagesFrom j s at line
+enough-turns : (s : List ℕ) (k j : ℕ) (at line : ℕ) → length s - at < k → length s - at < j → messagesFrom k s at line ≡ messagesFrom j s at line
 unfolding messagesFrom
-fuel zero j s at line h g = absurd (omega arith)
-fuel (suc k) zero s at line h g = absurd (omega arith)
-fuel (suc k) (suc j) s at line h g =
-    by (leb (length s) at) (λ t. rw t)
+enough-turns s k j at line h g =
+    fuel {S = ℕ × ℕ} (λ p. length s - p .0) (λ k p. messagesFrom k s (p .0) (p .1))
+    (λ k j p rec.
+    by (leb (length s) (p .0)) (λ t. rw t)
     (λ t.
-    let l : at < length s = leb-false _ _ t in
-    by (eqb (messageAt s at .number) 0)
+    let l : p .0 < length s = leb-false _ _ t in
+    by (eqb (messageAt s (p .0) .number) 0)
     (λ u.
-    let f = message-further s at (eqb-true _ _ u) in
-    rw (t, u, fuel k j s (messageAt s at .next) (line + 7) (omega arith) (omega arith)))
-    (λ u. rw (t, u)))
+    let f = message-further s (p .0) (eqb-true _ _ u) in
+    rw (t, u, rec (messageAt s (p .0) .next, p .1 + 7) (omega arith)))
+    (λ u. rw (t, u))))
+    k j (at, line) h g
 
 module _ (s : List ℕ) where
   -- the messages that are left at a place
@@ -74,7 +76,7 @@ module _ (s : List ℕ) where
   left-turn at line h z =
       let f = message-further s at z in
       more at line ∙ turn (length s) at line h z
-      ∙ ap (sentFirst (sentAt at)) (fuel (length s) (length s + 1) s (messageAt s at .next) (line + 7) (omega arith) (omega arith))
+      ∙ ap (sentFirst (sentAt at)) (enough-turns s (length s) (length s + 1) (messageAt s at .next) (line + 7) (omega arith) (omega arith))
 
   text-turn : (m : MqttMonitor) (n at line : ℕ) → at < length s → messageAt s at .number ≡ 0
       → leftText m n at line ≡ recordText n (resultOf (planned m (sentAt at))) ++ leftText (applied m (planned m (sentAt at))) (n + 1) (messageAt s at .next) (line + 7)
