@@ -2,7 +2,6 @@
 //     state · rules · buckets · trackers · windows · all
 // `state` is what stands in no table. Of a table each record that is not as a free place's has a line of its own, live or not, with every field; bytes are in hex up to
 // the last that is not zero. `all` is all of that.
-use crate::policies::action_place;
 use crate::policies::put_policy;
 use crate::say::put_hex;
 use crate::say::put_number;
@@ -18,6 +17,7 @@ use tables::buckets::RateBucket;
 use tables::identity::Id;
 use tables::rules::TopicAction;
 use tables::rules::TopicRule;
+use tables::rules::action_number;
 use tables::trackers::EwmaTracker;
 use tables::windows::ClientStormEntry;
 
@@ -54,7 +54,7 @@ fn put_id(out: &mut [u8], at: usize, id: Id) -> usize {
 
 fn put_action(out: &mut [u8], at: usize, action: TopicAction) -> usize {
     let key = put::put_bytes(out, at, b" action=");
-    put::put_word(out, key, b"allow|block", action_place(action))
+    put::put_word(out, key, b"allow|block", action_number(action) as usize)
 }
 
 // The line of a record at a place, unless it is what a free one has.

@@ -15,9 +15,9 @@ use cut::after;
 use cut::args::arg;
 use cut::before;
 use libc::STDIN_FILENO;
-use lines::value;
 use monitor::calls::new;
 use monitor::state::MqttMonitor;
+use slices::bytes::starts_with;
 
 // A line, and the answer beside it: the state after it.
 fn answer(m: MqttMonitor, line: &[u8]) -> MqttMonitor {
@@ -25,7 +25,7 @@ fn answer(m: MqttMonitor, line: &[u8]) -> MqttMonitor {
     if line.len() == 0 {
         return m;
     }
-    if value::starts_with(line, b"#") {
+    if starts_with(line, b"#") {
         return m;
     }
     say(b" ->");

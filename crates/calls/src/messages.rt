@@ -20,30 +20,9 @@ use monitor::alerts::SecurityAlert;
 use monitor::alerts::severity_number;
 use monitor::inspection::Inspected;
 use monitor::message::MqttMessage;
-use monitor::message::MqttPacketType;
+use monitor::message::type_at;
 use monitor::state::MqttMonitor;
 use monitor::state::Outcome;
-
-// A packet type by its number.
-fn packet_type(n: u64) -> MqttPacketType {
-    match n {
-        1 => MqttPacketType::Connect,
-        2 => MqttPacketType::ConnAck,
-        3 => MqttPacketType::Publish,
-        4 => MqttPacketType::PubAck,
-        5 => MqttPacketType::PubRec,
-        6 => MqttPacketType::PubRel,
-        7 => MqttPacketType::PubComp,
-        8 => MqttPacketType::Subscribe,
-        9 => MqttPacketType::SubAck,
-        10 => MqttPacketType::Unsubscribe,
-        11 => MqttPacketType::UnsubAck,
-        12 => MqttPacketType::PingReq,
-        13 => MqttPacketType::PingResp,
-        14 => MqttPacketType::Disconnect,
-        _ => MqttPacketType::Auth,
-    }
-}
 
 // A length that is claimed as it is.
 fn claim8(n: usize) -> u8 {
@@ -57,7 +36,7 @@ fn claim16(n: usize) -> u16 {
 // The message of a line.
 fn message(q: &[u8], topic_len: u8, payload_inspectable_len: u16) -> MqttMessage {
     MqttMessage {
-        packet_type: packet_type(number(q, 3)),
+        packet_type: type_at(number(q, 3)),
         topic_len: topic_len,
         qos: qos(q, 4),
         payload_len: number16(q, 6),

@@ -9,6 +9,7 @@ use cut::upto;
 use libc::STDIN_FILENO;
 use libc::STDOUT_FILENO;
 use lines::value;
+use slices::bytes::find_byte;
 use topics::hashes::fnv1a_hash;
 use topics::matching::match_number;
 use topics::matching::standard_matches;
@@ -35,7 +36,7 @@ fn main() {
 fn answer_all(text: &[u8]) {
     let mut at = 0;
     while at < text.len() {
-        let end = place_of(text, at, b'\n');
+        let end = find_byte(text, at, b'\n');
         answer(&text[at..end]);
         if end == text.len() {
             return;
@@ -152,7 +153,7 @@ fn quoted(line: &[u8], from: usize) -> Part
     requires { ⌜ from ≤ length (now line) ⌝ }
     ensures { λ r. ⌜ PartIn r (length (now (line .entry))) ⌝ }
 {
-    let open = place_of(line, from, b'"');
+    let open = find_byte(line, from, b'"');
     if open == line.len() {
         return Part {
             from: open,
@@ -161,7 +162,7 @@ fn quoted(line: &[u8], from: usize) -> Part
         };
     }
     let start = open + 1;
-    let close = place_of(line, start, b'"');
+    let close = find_byte(line, start, b'"');
     if close == line.len() {
         return Part {
             from: start,
@@ -174,19 +175,4 @@ fn quoted(line: &[u8], from: usize) -> Part
         to: close,
         next: close + 1,
     }
-}
-
-// The place of the first `byte` from `from` on, or the end.
-fn place_of(text: &[u8], from: usize, byte: u8) -> usize
-    requires { ⌜ from ≤ length (now text) ⌝ }
-    ensures { λ r. ⌜ (from ≤ r) × (r ≤ length (now (text .entry))) ⌝ }
-{
-    let mut i = from;
-    while i < text.len() {
-        if text[i] == byte {
-            return i;
-        }
-        i += 1;
-    }
-    i
 }

@@ -14,12 +14,12 @@ use cut::swap::swap;
 use cut::upto;
 use libc::STDIN_FILENO;
 use lines::put;
-use lines::value;
+use slices::bytes::starts_with;
 
 // A question: of a writer or of a reader.
 fn ask(q: &[u8]) {
     let name = arg(q, 0);
-    if value::starts_with(name, b"put_") {
+    if starts_with(name, b"put_") {
         writers::ask(name, q);
         return;
     }
@@ -29,7 +29,7 @@ fn ask(q: &[u8]) {
 // A line, and the answer beside it.
 fn answer(line: &[u8]) {
     say(line);
-    if value::starts_with(line, b"#") {
+    if starts_with(line, b"#") {
         return;
     }
     say(b" ->");

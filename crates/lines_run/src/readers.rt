@@ -20,6 +20,8 @@ use lines::held::Span;
 use lines::read;
 use lines::value;
 use lines::value::Number;
+use slices::bytes::find_byte;
+use slices::bytes::starts_with;
 
 // Where a line stands.
 fn say_span(s: Span) {
@@ -57,7 +59,7 @@ fn ask_hex(name: &[u8], q: &[u8], k: usize) {
 // A question about places in a text.
 fn ask_place(name: &[u8], q: &[u8]) {
     if is(name, b"find_byte") {
-        say_number(b"at", held::find_byte(text(q), place(q, 1), b'=') as u64);
+        say_number(b"at", find_byte(text(q), place(q, 1), b'=') as u64);
         return;
     }
     if is(name, b"span_at") {
@@ -78,7 +80,7 @@ fn ask_place(name: &[u8], q: &[u8]) {
 // A question about a value.
 fn ask_value(name: &[u8], q: &[u8]) {
     if is(name, b"starts_with") {
-        say_flag(b"yes", value::starts_with(text(q), arg(q, 1)));
+        say_flag(b"yes", starts_with(text(q), arg(q, 1)));
         return;
     }
     if is(name, b"decimal") {

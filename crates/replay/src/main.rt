@@ -13,8 +13,8 @@ use cut::args::rest;
 use cut::before;
 use cut::upto;
 use libc::STDIN_FILENO;
-use lines::held::find_byte;
-use topics::patterns;
+use slices::bytes::find_byte;
+use slices::bytes::same_bytes;
 ghost use mathlib.Core.Path.{_≡_};
 ghost use lib.ListN.{length};
 
@@ -62,7 +62,7 @@ fn judged(number: u64, line: &[u8], text: &mut [u8], out: &mut [u8]) -> u64 {
     }
     let original = rest(fields, asks(kind));
     let port = upto(out, k);
-    if patterns::same_bytes(original, port) {
+    if same_bytes(original, port) {
         return 0;
     }
     say_differs(number, original, port);
