@@ -37,7 +37,7 @@ fn within(n: u32, most: u32) -> u32
 }
 
 // A pattern that takes no topic below `site/+/lamp`.
-fn pattern_of(k: u32) -> [u8; 15]
+fn pattern_at(k: u32) -> [u8; 15]
     ensures { λ r. ⌜ r ≡ patternAt k ⌝ }
 {
     [
@@ -71,7 +71,7 @@ fn next_from(length: usize, width: usize, from: usize) -> usize
 }
 
 // The k-th message, 10,000 microseconds after the one before it.
-fn message_at(topic_len: u8, size: u16, k: u32) -> MqttMessage
+fn loop_message(topic_len: u8, size: u16, k: u32) -> MqttMessage
     ensures { λ r. ⌜ r ≡ loopMessage «topic_len» size k ⌝ }
 {
     MqttMessage {
@@ -99,7 +99,7 @@ fn held(others: u32) -> HeldRules
     let mut rule_count = 0;
     let mut k: u32 = 0;
     while k < others {
-        let pattern = pattern_of(k);
+        let pattern = pattern_at(k);
         let plan = plan_rule(
             rules,
             rule_count,
@@ -179,7 +179,7 @@ pub extern "C" fn hub_loop(rules: u32, topics: &[u8], width: u8, size: u16, mess
     let mut k: u32 = 0;
     while k < messages {
         let to = from + wide;
-        let plan = plan_for(m, message_at(width, size, k), &topics[from..to], b"on");
+        let plan = plan_for(m, loop_message(width, size, k), &topics[from..to], b"on");
         let inspected = count_on(m.total_inspected);
         let seen = plan.seen;
         let seen_at = seen.at;

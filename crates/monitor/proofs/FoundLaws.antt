@@ -1,6 +1,6 @@
 -- What holds of whatever is found of a message, under any matcher: the kind that denies it is 0 or one of the seven that deny, and what feeds the tracker is no broad
 -- Subscribe. Assumes nothing.
-use mathlib.Core.Bool.{Bool, true, false, cond, not, _&&_}
+use mathlib.Core.Bool.{Bool, true, false, not, _&&_}
 use mathlib.Core.List.{List}
 use mathlib.Core.Path.{_≡_, refl}
 use Prim.Native.Nat.{ℕ}

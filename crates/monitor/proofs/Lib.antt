@@ -16,4 +16,4 @@ mod SoundRules
 mod SoundTrackers
 mod SoundWindows
 pub mod Total
-mod Unbroken
+pub mod Unbroken

@@ -3,7 +3,7 @@ use Prim.Native.Nat.{ℕ, _^_, _<_}
 use native.Mathlib.Omega.{arith}
 use borrow.Author.Tests.{ltb-true, ltb-false}
 use lib.Dec.{ltb}
-use lib.ListN.{length, getD, replicate, getD-replicate, List·getD-eq-default, length-replicate}
+use lib.ListN.{getD, replicate, getD-replicate, List·getD-eq-default, length-replicate}
 use Rattle.laws.proofs.Cases.{by}
 use Rattle.tables.specs.Buckets.{noBucket, emptyBucket}
 use Rattle.tables.specs.Identity.{noId, emptyId}

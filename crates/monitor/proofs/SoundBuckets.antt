@@ -10,7 +10,6 @@ use Rattle.laws.proofs.Tests.{both}
 use Rattle.tables.specs.Buckets.{holdsBucket, spend, made, decide, noBucket, emptyBucket}
 use Rattle.tables.specs.Identity.{idOf, isOf}
 use Rattle.tables.specs.declared.buckets.RateBucket.{RateBucket}
-use Rattle.tables.specs.declared.buckets.Spent.{Spent}
 use Rattle.tables.proofs.buckets.BucketLaws.{keeps}
 use Rattle.tables.proofs.buckets.StepLaws.{bucketAt, stored, first, Absent, Step, hit, put, step}
 use Rattle.laws.proofs.Lists.{each, pairs}

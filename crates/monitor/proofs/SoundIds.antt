@@ -2,12 +2,11 @@
 use mathlib.Core.Bool.{true, false, _&&_, false≢true}
 use mathlib.Core.List.{List}
 use mathlib.Core.Path.{_≡_, sym, _∙_}
-use Prim.Native.Nat.{ℕ, _-_, _<_, min}
+use Prim.Native.Nat.{ℕ, _-_}
 use native.Mathlib.Omega.{arith}
 use borrow.Author.Tests.{eqb-true}
 use lib.Dec.{eqb}
 use lib.ListN.{length, take, replicate, length-append, length-take, length-replicate}
-use lib.Seq.{drop-at}
 use Rattle.slices.specs.Bytes.{same}
 use Rattle.laws.proofs.Tests.{both, fails}
 use Rattle.slices.proofs.bytes.SameLaws.{same-true}

@@ -2,15 +2,13 @@
 use mathlib.Core.Bool.{true, false, _&&_, true≢false, false≢true}
 use mathlib.Core.List.{List}
 use mathlib.Core.Path.{_≡_, refl, sym, _∙_}
-use Prim.Native.Nat.{ℕ, suc, _+_, _-_, _%_, _≤_, _<_}
+use Prim.Native.Nat.{ℕ, _-_, _<_}
 use native.Mathlib.Omega.{arith}
-use borrow.Author.Tests.{ltb-true, ltb-false, eqb-true, eq-eqb}
-use lib.Dec.{eqb, ltb}
-use lib.ListN.{length, getD, drop, set, replicate, length-set, getD-replicate, drop-of-length-le}
-use lib.Seq.{drop-set-lt, drop-drop}
+use borrow.Author.Tests.{eqb-true, eq-eqb}
+use lib.Dec.{eqb}
+use lib.ListN.{length, getD, set, replicate, length-set, getD-replicate}
 use Rattle.topics.specs.declared.hashes.ClientHashes.{ClientHashes}
 use Rattle.laws.proofs.Tests.{both, fails}
-use Rattle.laws.proofs.Cases.{by}
 use Rattle.tables.specs.Scan.{seat}
 use Rattle.tables.specs.Windows.{holdsClient, recorded, freshWindow, connect, connectAt, noWindow, emptyWindow}
 use Rattle.tables.specs.declared.windows.ClientStormEntry.{ClientStormEntry}

@@ -1,6 +1,6 @@
 -- Every call leaves the state of an unbroken history: a stored record has an identity that was made of a topic, or a ring that CONNECTs filled; all else is as it was. The topic used has at most 128
 -- bytes, so that no identity's length is cut. Assumes nothing.
-use mathlib.Core.Bool.{Bool, true, false, _&&_, false≢true}
+use mathlib.Core.Bool.{Bool, true, false, false≢true}
 use mathlib.Core.List.{List}
 use mathlib.Core.Path.{_≡_, refl, sym, _∙_}
 use Prim.Native.Nat.{ℕ, suc, _+_, _-_, _%_, _≤_, _<_, min}
@@ -13,9 +13,8 @@ use Rattle.topics.specs.Hashes.{clientHashes}
 use Rattle.topics.specs.declared.hashes.ClientHashes.{ClientHashes}
 use Rattle.laws.proofs.Cases.{by}
 use Rattle.laws.proofs.Lists.{each}
-use Rattle.laws.proofs.Tests.{both}
 use Rattle.tables.specs.Buckets.{noBucket, emptyBucket, decide, removedBucket}
-use Rattle.tables.specs.Identity.{idOf, isOf, prefixOf}
+use Rattle.tables.specs.Identity.{idOf, prefixOf}
 use Rattle.tables.specs.Scan.{seat}
 use Rattle.tables.specs.Trackers.{noTracker, emptyTracker, holdsTracker, freshTracker, fed, feedAt, feed, removedTracker}
 use Rattle.tables.specs.Windows.{noWindow, emptyWindow, holdsClient, freshWindow, recorded, connectAt, connect}
@@ -23,9 +22,7 @@ use Rattle.tables.specs.declared.buckets.RateBucket.{RateBucket}
 use Rattle.tables.specs.declared.rules.QosPolicy.{QosPolicy}
 use Rattle.tables.specs.declared.rules.TopicAction.{TopicAction}
 use Rattle.tables.specs.declared.trackers.EwmaTracker.{EwmaTracker}
-use Rattle.tables.specs.declared.trackers.TrackerDecision.{TrackerDecision}
 use Rattle.tables.specs.declared.windows.ClientStormEntry.{ClientStormEntry}
-use Rattle.tables.specs.declared.windows.ConnectDecision.{ConnectDecision}
 use Rattle.tables.proofs.LookupLaws.{looked-up}
 use Rattle.tables.proofs.ScanLaws.{seat-lt}
 use Rattle.tables.proofs.buckets.BucketLaws.{keeps}

@@ -1,7 +1,7 @@
 -- The state, the test behind number 10, and one update for each group of fields (document 01, "Numbers handed back").
 -- Assumes nothing.
-use mathlib.Core.Bool.{Bool, true, cond, _&&_}
-use mathlib.Core.List.{List, [], _∷_}
+use mathlib.Core.Bool.{Bool, cond, _&&_}
+use mathlib.Core.List.{List}
 use Prim.Native.Nat.{ℕ}
 use lib.Dec.{eqb, leb}
 use lib.ListN.{take}

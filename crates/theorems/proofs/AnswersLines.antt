@@ -8,8 +8,6 @@ use denote.Ref.{now}
 use Rattle.lines.specs.Wrote.{Wrote}
 use Rattle.lines.specs.Span.{spanOf}
 use Rattle.theorems.specs.One.{Out, Any, One, OneLeft, Says, AsksNothing}
-use Rattle.lines.proofs.held.find_byte as held-find-byte
-use Rattle.lines.proofs.held.find_byte.Reads as held-find-byte-reads
 use Rattle.lines.proofs.held.span_at as held-span-at
 use Rattle.lines.proofs.held.span_at.Reads as held-span-at-reads
 use Rattle.lines.proofs.held.span_from as held-span-from
@@ -54,8 +52,6 @@ use Rattle.lines.proofs.read.hex_field as read-hex-field
 use Rattle.lines.proofs.read.hex_field.Reads as read-hex-field-reads
 use Rattle.lines.proofs.read.text_end as read-text-end
 use Rattle.lines.proofs.read.text_end.Reads as read-text-end-reads
-use Rattle.lines.proofs.value.starts_with as value-starts-with
-use Rattle.lines.proofs.value.starts_with.Reads as value-starts-with-reads
 use Rattle.lines.proofs.value.decimal as value-decimal
 use Rattle.lines.proofs.value.decimal.Reads as value-decimal-reads
 use Rattle.lines.proofs.value.word as value-word
@@ -68,12 +64,6 @@ use Rattle.lines.proofs.held.line_here as held-line-here
 -- what `Wrote` says of a place and a buffer, no other place and buffer meet
 pub wrote-once : {d e f : List ℕ} {at x y : ℕ} {t : List ℕ} → Wrote d e at t x → Wrote d f at t y → (x ≡ y) × (e ≡ f)
 wrote-once p q = (p .next ∙ sym (q .next), p .bytes ∙ sym (q .bytes))
-
-pub one-held-find-byte : One held-find-byte.ended held-find-byte-reads.Post
-one-held-find-byte κs a x y e f p q = p ∙ sym q
-
-pub any-held-find-byte : Any held-find-byte.ended held-find-byte-reads.Asked
-any-held-find-byte κs a = tt
 
 pub one-held-span-at : One held-span-at.ended held-span-at-reads.Post
 one-held-span-at κs a x y e f p q = p ∙ sym q
@@ -206,12 +196,6 @@ one-read-text-end κs a x y e f p q = p ∙ sym q
 
 pub any-read-text-end : Any read-text-end.ended read-text-end-reads.Asked
 any-read-text-end κs a = tt
-
-pub one-value-starts-with : One value-starts-with.ended value-starts-with-reads.Post
-one-value-starts-with κs a x y e f p q = p ∙ sym q
-
-pub any-value-starts-with : Any value-starts-with.ended value-starts-with-reads.Asked
-any-value-starts-with κs a = tt
 
 pub one-value-decimal : One value-decimal.ended value-decimal-reads.Post
 one-value-decimal κs a x y e f p q = p ∙ sym q

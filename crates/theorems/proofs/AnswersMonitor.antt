@@ -45,8 +45,6 @@ use Rattle.monitor.proofs.plan.plan_from as plan-plan-from
 use Rattle.monitor.proofs.plan.plan_from.Reads as plan-plan-from-reads
 use Rattle.monitor.proofs.plan.plan_for as plan-plan-for
 use Rattle.monitor.proofs.plan.plan_for.Reads as plan-plan-for-reads
-use Rattle.monitor.proofs.rule_calls.plan_rule as rule-calls-plan-rule
-use Rattle.monitor.proofs.rule_calls.plan_rule.Reads as rule-calls-plan-rule-reads
 use Rattle.monitor.proofs.rule_calls.add_rule as rule-calls-add-rule
 use Rattle.monitor.proofs.rule_calls.add_rule.Reads as rule-calls-add-rule-reads
 use Rattle.monitor.proofs.rule_calls.remove_rule as rule-calls-remove-rule
@@ -61,6 +59,8 @@ use Rattle.monitor.proofs.state.free_rules as state-free-rules
 use Rattle.monitor.proofs.state.free_rules.Reads as state-free-rules-reads
 use Rattle.monitor.proofs.state.well_formed as state-well-formed
 use Rattle.monitor.proofs.state.well_formed.Reads as state-well-formed-reads
+use Rattle.monitor.proofs.message.type_at as message-type-at
+use Rattle.monitor.proofs.message.type_at.Reads as message-type-at-reads
 
 pub one-alerts-severity-number : One alerts-severity-number.ended alerts-severity-number-reads.Post
 one-alerts-severity-number κs a x y e f p q = p ∙ sym q
@@ -194,12 +194,6 @@ one-plan-plan-for κs a x y e f p q = p ∙ sym q
 pub any-plan-plan-for : Any plan-plan-for.ended plan-plan-for-reads.Asked
 any-plan-plan-for κs a = tt
 
-pub one-rule-calls-plan-rule : One rule-calls-plan-rule.ended rule-calls-plan-rule-reads.Post
-one-rule-calls-plan-rule κs a x y e f p q = p ∙ sym q
-
-pub any-rule-calls-plan-rule : Any rule-calls-plan-rule.ended rule-calls-plan-rule-reads.Asked
-any-rule-calls-plan-rule κs a = tt
-
 pub one-rule-calls-add-rule : One rule-calls-add-rule.ended rule-calls-add-rule-reads.Post
 one-rule-calls-add-rule κs a x y e f p q = p ∙ sym q
 
@@ -241,3 +235,9 @@ one-state-well-formed κs a x y e f p q = p ∙ sym q
 
 pub any-state-well-formed : Any state-well-formed.ended state-well-formed-reads.Asked
 any-state-well-formed κs a = tt
+
+pub one-message-type-at : One message-type-at.ended message-type-at-reads.Post
+one-message-type-at κs a x y e f p q = p ∙ sym q
+
+pub any-message-type-at : Any message-type-at.ended message-type-at-reads.Asked
+any-message-type-at κs a = tt

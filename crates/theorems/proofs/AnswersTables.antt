@@ -61,6 +61,20 @@ use Rattle.tables.proofs.windows.empty_window.Reads as windows-empty-window-rea
 use Rattle.tables.proofs.windows.window_fine as windows-window-fine
 use Rattle.tables.proofs.windows.window_fine.Reads as windows-window-fine-reads
 use Rattle.tables.proofs.buckets.try_consume as buckets-try-consume
+use Rattle.tables.proofs.rules.qos_number as rules-qos-number
+use Rattle.tables.proofs.rules.qos_number.Reads as rules-qos-number-reads
+use Rattle.tables.proofs.rules.qos_at as rules-qos-at
+use Rattle.tables.proofs.rules.qos_at.Reads as rules-qos-at-reads
+use Rattle.tables.proofs.rules.action_number as rules-action-number
+use Rattle.tables.proofs.rules.action_number.Reads as rules-action-number-reads
+use Rattle.tables.proofs.rules.action_at as rules-action-at
+use Rattle.tables.proofs.rules.action_at.Reads as rules-action-at-reads
+use Rattle.tables.proofs.rules.policy_number as rules-policy-number
+use Rattle.tables.proofs.rules.policy_number.Reads as rules-policy-number-reads
+use Rattle.tables.proofs.rules.policy_at as rules-policy-at
+use Rattle.tables.proofs.rules.policy_at.Reads as rules-policy-at-reads
+use Rattle.tables.proofs.rules.plan_rule as rules-plan-rule
+use Rattle.tables.proofs.rules.plan_rule.Reads as rules-plan-rule-reads
 
 pub one-buckets-consume : One buckets-consume.ended buckets-consume-reads.Post
 one-buckets-consume κs a x y e f p q = p ∙ sym q
@@ -242,3 +256,45 @@ one-buckets-try-consume κs a x y e f p q = (p .0 ∙ sym (q .0), p .1 ∙ sym (
 
 pub any-buckets-try-consume : AsksNothing buckets-try-consume.ended (λ M 𝓤. buckets-try-consume.clauses 𝓤)
 any-buckets-try-consume M 𝓤 H A mem run κs a g = refl
+
+pub one-rules-qos-number : One rules-qos-number.ended rules-qos-number-reads.Post
+one-rules-qos-number κs a x y e f p q = p .0 ∙ sym (q .0)
+
+pub any-rules-qos-number : Any rules-qos-number.ended rules-qos-number-reads.Asked
+any-rules-qos-number κs a = tt
+
+pub one-rules-qos-at : One rules-qos-at.ended rules-qos-at-reads.Post
+one-rules-qos-at κs a x y e f p q = p ∙ sym q
+
+pub any-rules-qos-at : Any rules-qos-at.ended rules-qos-at-reads.Asked
+any-rules-qos-at κs a = tt
+
+pub one-rules-action-number : One rules-action-number.ended rules-action-number-reads.Post
+one-rules-action-number κs a x y e f p q = p ∙ sym q
+
+pub any-rules-action-number : Any rules-action-number.ended rules-action-number-reads.Asked
+any-rules-action-number κs a = tt
+
+pub one-rules-action-at : One rules-action-at.ended rules-action-at-reads.Post
+one-rules-action-at κs a x y e f p q = p ∙ sym q
+
+pub any-rules-action-at : Any rules-action-at.ended rules-action-at-reads.Asked
+any-rules-action-at κs a = tt
+
+pub one-rules-policy-number : One rules-policy-number.ended rules-policy-number-reads.Post
+one-rules-policy-number κs a x y e f p q = p ∙ sym q
+
+pub any-rules-policy-number : Any rules-policy-number.ended rules-policy-number-reads.Asked
+any-rules-policy-number κs a = tt
+
+pub one-rules-policy-at : One rules-policy-at.ended rules-policy-at-reads.Post
+one-rules-policy-at κs a x y e f p q = p ∙ sym q
+
+pub any-rules-policy-at : Any rules-policy-at.ended rules-policy-at-reads.Asked
+any-rules-policy-at κs a = tt
+
+pub one-rules-plan-rule : One rules-plan-rule.ended rules-plan-rule-reads.Post
+one-rules-plan-rule κs a x y e f p q = p ∙ sym q
+
+pub any-rules-plan-rule : Any rules-plan-rule.ended rules-plan-rule-reads.Asked
+any-rules-plan-rule κs a = tt

@@ -25,14 +25,14 @@ use Rattle.topics.proofs.names.starts_with_dollar as names-starts-with-dollar
 use Rattle.topics.proofs.names.starts_with_dollar.Reads as names-starts-with-dollar-reads
 use Rattle.topics.proofs.names.contains_invalid_publish_char as names-contains-invalid-publish-char
 use Rattle.topics.proofs.names.contains_invalid_publish_char.Reads as names-contains-invalid-publish-char-reads
-use Rattle.topics.proofs.patterns.same_bytes as patterns-same-bytes
-use Rattle.topics.proofs.patterns.same_bytes.Reads as patterns-same-bytes-reads
 use Rattle.topics.proofs.patterns.validate_mqtt_wildcard as patterns-validate-mqtt-wildcard
 use Rattle.topics.proofs.patterns.validate_mqtt_wildcard.Reads as patterns-validate-mqtt-wildcard-reads
 use Rattle.topics.proofs.patterns.pattern_refusal as patterns-pattern-refusal
 use Rattle.topics.proofs.patterns.pattern_refusal.Reads as patterns-pattern-refusal-reads
 use Rattle.topics.proofs.payload.compute_payload_hash as payload-compute-payload-hash
 use Rattle.topics.proofs.payload.compute_payload_hash.Reads as payload-compute-payload-hash-reads
+use Rattle.topics.proofs.matching.matches_with as matching-matches-with
+use Rattle.topics.proofs.matching.matches_with.Reads as matching-matches-with-reads
 
 pub one-hashes-wrapping-mul32 : One hashes-wrapping-mul32.ended hashes-wrapping-mul32-reads.Post
 one-hashes-wrapping-mul32 κs a x y e f p q = p ∙ sym q
@@ -106,12 +106,6 @@ one-names-contains-invalid-publish-char κs a x y e f p q = p ∙ sym q
 pub any-names-contains-invalid-publish-char : Any names-contains-invalid-publish-char.ended names-contains-invalid-publish-char-reads.Asked
 any-names-contains-invalid-publish-char κs a = tt
 
-pub one-patterns-same-bytes : One patterns-same-bytes.ended patterns-same-bytes-reads.Post
-one-patterns-same-bytes κs a x y e f p q = p ∙ sym q
-
-pub any-patterns-same-bytes : Any patterns-same-bytes.ended patterns-same-bytes-reads.Asked
-any-patterns-same-bytes κs a = tt
-
 pub one-patterns-validate-mqtt-wildcard : One patterns-validate-mqtt-wildcard.ended patterns-validate-mqtt-wildcard-reads.Post
 one-patterns-validate-mqtt-wildcard κs a x y e f p q = p ∙ sym q
 
@@ -129,3 +123,9 @@ one-payload-compute-payload-hash κs a x y e f p q = p ∙ sym q
 
 pub any-payload-compute-payload-hash : Any payload-compute-payload-hash.ended payload-compute-payload-hash-reads.Asked
 any-payload-compute-payload-hash κs a = tt
+
+pub one-matching-matches-with : One matching-matches-with.ended matching-matches-with-reads.Post
+one-matching-matches-with κs a x y e f p q = p ∙ sym q
+
+pub any-matching-matches-with : Any matching-matches-with.ended matching-matches-with-reads.Asked
+any-matching-matches-with κs a = tt

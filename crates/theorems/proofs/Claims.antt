@@ -6,6 +6,7 @@ use Rattle.monitor.proofs.Denied.{denied-by-kind}
 use Rattle.monitor.proofs.Four.{four-at-most, none-dropped}
 use Rattle.monitor.proofs.Reached.{sound-always}
 use Rattle.monitor.proofs.Total.{total-is-sum}
+use Rattle.monitor.proofs.Unbroken.{unbroken-always}
 use Rattle.theorems.specs.Claims.{Claims}
 use Rattle.theorems.proofs.Corners.{corners}
 use Rattle.theorems.proofs.Loop.{loop-limits}
@@ -29,6 +30,7 @@ claims =
       printed-met = witness;
       looped = loop-limits;
       sound = sound-always;
+      unbroken = unbroken-always;
       denied = denied-by-kind;
       four = four-at-most;
       none-dropped = none-dropped;

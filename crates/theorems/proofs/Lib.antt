@@ -3,6 +3,7 @@ mod AnswersHub
 mod AnswersLines
 mod AnswersLoops
 mod AnswersMonitor
+mod AnswersSlices
 mod AnswersTables
 mod AnswersTopics
 mod AnswersTrace

@@ -1,21 +1,15 @@
 -- The loop of `loops` is a run of inspections (specs/Printed.antt, `Looped`): each message lends exactly what it uses, so `inspect` applies the plan that the loop applies.
 -- Assumes nothing.
-use mathlib.Core.Bool.{Bool, true}
+use mathlib.Core.Bool.{true}
 use mathlib.Core.List.{List, [], _∷_, _++_}
 use mathlib.Core.Path.{_≡_, refl, sym, ap, _∙_}
 use Prim.Native.Nat.{ℕ, zero, suc, _+_, _*_, _≤_, min}
 use native.Mathlib.Omega.{arith}
 use lib.ListN.{length, length-take, length-drop}
 use Rattle.tables.specs.Rules.{ruleMatches}
-use Rattle.laws.proofs.Tests.{both}
 use Rattle.laws.proofs.Cases.{by}
-use Rattle.slices.specs.Bytes.{bytes}
 use Rattle.lines.specs.Span.{part}
-use Rattle.tables.specs.declared.rules.MqttQoS.the-variants.{AtLeastOnce}
-use Rattle.tables.specs.declared.rules.QosPolicy.the-variants.{MinQoS}
-use Rattle.tables.specs.declared.rules.TopicAction.the-variants.{Allow, Block}
 use Rattle.monitor.specs.Inspect.{doneWith}
-use Rattle.monitor.specs.Prepared.{Prepared, made, rule}
 use Rattle.monitor.specs.Runs.{Call, Exact, Reply, answer, after, replies, isInspected}
 use Rattle.laws.specs.Lists.{every}
 use Rattle.monitor.specs.State.{wellFormed}
@@ -25,9 +19,10 @@ use Rattle.monitor.proofs.state.KeptFormed.{kept-formed}
 use Rattle.monitor.proofs.Prepared.{prepared-sound}
 use Rattle.monitor.proofs.Replies.{exact-done}
 use Rattle.loops.proofs.inspections.LoopLaws.{readied-prepared}
-use Rattle.loops.specs.Inspections.{patternAt, fromAt, ruled, readied, planAt, stateAfter, allowedAfter}
+use Rattle.loops.specs.Inspections.{fromAt, readied, planAt, stateAfter, allowedAfter}
 use Rattle.loops.proofs.inspections.LoopLaws.{next-within, all-run}
 use Rattle.theorems.specs.Printed.{passed, callAt, callsTo, loopReplies, LoopLimits}
+use Rattle.laws.proofs.Every.{every-join}
 use Rattle.theorems.specs.Run.{time, InOrder, nothing, single, later}
 use Rattle.theorems.proofs.Cuts.{after-two}
 use Rattle.theorems.proofs.Printed.{topic-limits}
@@ -38,11 +33,6 @@ unfolding replies after
 replies-two m [] b = refl
 replies-two m (c ∷ a) b =
     ap (λ (l : List Reply). record { call = c; given = answer ruleMatches m c } ∷ l) (replies-two (answer ruleMatches m c .monitor) a b)
-
-every-two : {A : Type 0} (p : A → Bool) (a b : List A) → every p a ≡ true → every p b ≡ true → every p (a ++ b) ≡ true
-unfolding every
-every-two p [] b e f = f
-every-two p (x ∷ a) b e f = let h = both (p x) (every p a) e in rw (h .0) (every-two p a b (h .1) f)
 
 passed-two : (a b : List Reply) → passed (a ++ b) ≡ passed a + passed b
 unfolding passed
@@ -67,7 +57,6 @@ in-order [] c o p = single c
 in-order (d ∷ []) c o p = later (p .0) (single c)
 in-order (d ∷ e ∷ cs) c (later h o) p = later h (in-order (e ∷ cs) c o (p .1))
 
--- its monitor is a fresh one with rules
 -- a topic that begins where it should lies inside
 from-within : (long width k : ℕ) → width ≤ long → fromAt long width k + width ≤ long
 unfolding fromAt
@@ -115,7 +104,7 @@ module _ (n : ℕ) (topics : List ℕ) (width size : ℕ) (short : width ≤ 128
   unfolding callsTo replies every
   all-inspected zero = refl
   all-inspected (suc k) =
-      rw (one-more k) (every-two isInspected (loopReplies n topics width size k) _ (all-inspected k) (rw (done k)))
+      rw (one-more k) (every-join isInspected (loopReplies n topics width size k) _ (all-inspected k) (rw (done k)))
 
   all-counted : (k : ℕ) → allowedAfter n topics width size k ≡ min (passed (loopReplies n topics width size k)) 18446744073709551615
   unfolding allowedAfter callsTo replies passed

@@ -1,6 +1,6 @@
 -- Demand 3 of the replies of a run (specs/Printed.antt). A list of replies that is cut cuts the run; a reply to a Publish of the topic is one that reaches the limiter with the
 -- topic's identity, under the topic's rate, and the other way round; so the replies that pass are those that specs/Limits.antt counts. Assumes nothing.
-use mathlib.Core.Bool.{Bool, true, not, _&&_, false≢true}
+use mathlib.Core.Bool.{true, not, _&&_, false≢true}
 use mathlib.Core.List.{List, [], _∷_, _++_, append-assoc, nil≢cons, head-eq-of-cons-eq, tail-eq-of-cons-eq}
 use mathlib.Core.Path.{_≡_, refl, sym, ap, _∙_, subst}
 use Prim.Native.Nat.{ℕ, _+_, _-_, _*_, _/_, _<_, _≤_}
@@ -25,6 +25,7 @@ use Rattle.monitor.proofs.Prepared.{prepared-sound}
 use Rattle.trace.specs.Trace.{messagesOf}
 use Rattle.trace.proofs.AsRun.{as-run}
 use Rattle.theorems.specs.Printed.{publishes, isQuiet, passedOf, topicRate, calls, TopicLimits, PrintedLimits}
+use Rattle.laws.proofs.Every.{every-front, every-back}
 use Rattle.theorems.specs.Run.{Matcher, time, isAllowed, used, isPublish, isName, rateOf, reaches, InOrder, nothing, single, later, OneRate, done, next, Silent, allowedOf, arrived}
 use Rattle.theorems.proofs.Lower.{lower-first, lower-later}
 use Rattle.theorems.proofs.Turns.{Like, rate-like, on, on-run, begin}
@@ -40,17 +41,6 @@ ordered : (a b : List Call) → InOrder (a ++ b) → InOrder a
 ordered [] b o = nothing
 ordered (c ∷ []) b o = single c
 ordered (c ∷ d ∷ a) b (later h o) = later h (ordered (d ∷ a) b o)
-
--- what holds of every element holds of every one of a part
-every-first : {A : Type 0} (p : A → Bool) (a b : List A) → every p (a ++ b) ≡ true → every p a ≡ true
-unfolding every
-every-first p [] b e = refl
-every-first p (x ∷ a) b e = let h = both (p x) (every p (a ++ b)) e in rw (h .0) (every-first p a b (h .1))
-
-every-last : {A : Type 0} (p : A → Bool) (a b : List A) → every p (a ++ b) ≡ true → every p b ≡ true
-unfolding every
-every-last p [] b e = e
-every-last p (x ∷ a) b e = every-last p a b (both (p x) (every p (a ++ b)) e .1)
 
 module _ (matcher : Matcher) where
   -- the replies to a run are to its calls
@@ -186,7 +176,7 @@ module _ (matcher : Matcher) where
     unfolding every
     reply-taken first rest z e =
         let h = head (after matcher m (calls first)) z rest (cut m cs first (z ∷ rest) e .second) in
-        let j = both (isInspected z) (every isInspected rest) (every-last isInspected first (z ∷ rest) (rw e at i)) .0 in
+        let j = both (isInspected z) (every isInspected rest) (every-back isInspected first (z ∷ rest) (rw e at i)) .0 in
         rw (taken-there (there first) (z .call)) at (taken (after matcher m (calls first)) (z .call) (rw h at j))
 
     -- the calls up to one are in order
@@ -250,7 +240,7 @@ module _ (matcher : Matcher) where
         counted =
             let k = cut m cs first (window ++ rest) apart in
             let w = cut (after matcher m (calls first)) (calls (window ++ rest)) window rest (sym (k .second)) .first in
-            let j = every-first isInspected window rest (every-last isInspected first (window ++ rest) (rw apart at i)) in
+            let j = every-front isInspected window rest (every-back isInspected first (window ++ rest) (rw apart at i)) in
             ap (passedOf t) w ∙ count m t short limited (there first) (calls window) (rw w at j)
             ∙ ap (allowedOf matcher (after matcher m (calls first)) (idOf t)) window-calls
 

@@ -16,7 +16,7 @@ use Rattle.topics.specs.declared.matching.StandardMatch.the-variants.{Yes, No, 
 use Rattle.lines.specs.Decimal.{decimal, decimalIn}
 use Rattle.lines.specs.Field.{keyed, lineAt, answered, wordField, numberField}
 use Rattle.lines.specs.Line.{numberLine}
-use Rattle.lines.specs.ReadWord.{isWord, wordOf, wordIndex}
+use Rattle.lines.specs.ReadWord.{wordOf, wordIndex}
 use Rattle.lines.specs.Span.{spanOf}
 use Rattle.lines.specs.Word.{firstWord, restWords}
 use Rattle.tables.specs.Buckets.{refilled, spend, isExpired, holdsBucket, newcomer, decide}
@@ -221,7 +221,7 @@ invented-shadow v meets n h =
 
 -- an empty trace is refused at its first line, and one with that line alone at its second
 lines-read : (traceEnd 200 [] .line ≡ 1) × (traceEnd 200 (bytes "default=allow" ++ 10 ∷ []) .line ≡ 2)
-unfolding fresh spanOf findByte toByte firstWord restWords begins isWord wordOf wordIndex keyed lineAt answered wordField numberField decimal decimalIn
+unfolding fresh spanOf findByte toByte firstWord restWords begins same wordOf wordIndex keyed lineAt answered wordField numberField decimal decimalIn
     numberLine openingOf opening1 opening2 closingText loadedFrom loaded messagesOf textFrom traceText traceEnd
 lines-read = (refl, refl)
 

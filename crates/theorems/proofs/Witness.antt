@@ -3,12 +3,11 @@ use mathlib.Core.Path.{refl}
 use Prim.Native.Nat.{_≤_}
 use native.Mathlib.Omega.{arith}
 use Rattle.lines.specs.Decimal.{decimal, decimalIn}
-use Rattle.lines.specs.Every as lines-every
 use Rattle.lines.specs.Field.{keyed, lineAt, answered, numberField, wordField, hexField}
 use Rattle.lines.specs.ReadDecimal.{isDigit, digitsAfter, noSpareZero, decimalOf}
 use Rattle.lines.specs.ReadHex.{isHex, unhex, hexRefusal}
 use Rattle.slices.specs.Bytes.{begins, toByte, findByte, same, has, countOf}
-use Rattle.lines.specs.ReadWord.{isWord, wordIndex, wordOf}
+use Rattle.lines.specs.ReadWord.{wordIndex, wordOf}
 use Rattle.lines.specs.Span.{spanOf}
 use Rattle.lines.specs.Word.{firstWord, restWords}
 use Rattle.topics.specs.Hashes.{fnv1a, djb2, suffixHash}
@@ -34,8 +33,8 @@ use Rattle.theorems.specs.Run.{later, single, firstRate}
 use Rattle.theorems.specs.Witness.{busyText, Witness}
 
 pub witness : Witness
-unfolding decimal decimalIn lines-every.every keyed lineAt answered numberField wordField hexField isDigit digitsAfter noSpareZero decimalOf isHex unhex hexRefusal
-    begins isWord wordIndex wordOf toByte findByte spanOf firstWord restWords matchBytes fromSlash takesNone takesEnd firstLevel restLevels same has wellPlaced
+unfolding decimal decimalIn keyed lineAt answered numberField wordField hexField isDigit digitsAfter noSpareZero decimalOf isHex unhex hexRefusal
+    begins wordIndex wordOf toByte findByte spanOf firstWord restWords matchBytes fromSlash takesNone takesEnd firstLevel restLevels same has wellPlaced
     countOf patternRefusal fnv1a djb2 suffixHash prefixOf idOf isOf find leastOf refilled spend isExpired holdsBucket newcomer decide qosOk ruleFine equalRule
     firstRule covered shadowedAfter severityOf hashOf kindsOf raise raiseAll fresh rulePlan addRule rulingOf gateAfter gateOf applied inspectRefusal inspectWith
     seenOf spentOf fedOf denialOf planFrom planOf replies every wellFormed openingOf opening1 opening2 ruleAt rule1 rule2 rule3 rule4 messageAt message1 message2

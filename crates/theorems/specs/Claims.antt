@@ -4,7 +4,7 @@
 -- Assumes nothing.
 use Rattle.topics.specs.Meaning.{Meaning, Difference}
 use Rattle.lines.specs.Round.{Round}
-use Rattle.monitor.specs.Reached.{SoundAlways}
+use Rattle.monitor.specs.Reached.{SoundAlways, UnbrokenAlways}
 use Rattle.monitor.specs.Told.{DeniedByKind, AtMostFour, NoneDropped, TotalIsSum}
 use Rattle.theorems.specs.Corners.{Corners}
 use Rattle.theorems.specs.Limits.{Upper, LowerFirst, LowerLater}
@@ -34,6 +34,8 @@ pub record Claims : Type 0 where
   pub looped : LoopLimits
   -- ONE INSPECTION AND MANY. Every state that calls hand out is sound, so number 10 is never met in one
   pub sound : SoundAlways
+  -- and, without a load, of the monitor's own making: identities made of topics, rings that CONNECTs filled
+  pub unbroken : UnbrokenAlways
   -- a message is denied exactly when kind 1, 2, 3, 5, 6, 9 or 10 was raised
   pub denied : DeniedByKind
   -- at most four alerts are raised
@@ -42,7 +44,7 @@ pub record Claims : Type 0 where
   pub none-dropped : NoneDropped
   -- the alert total is the sum of the alert counts since the monitor was made or reset, capped
   pub total : TotalIsSum
-  -- MATCHING. On a pattern whose wildcards are well placed the byte matcher is document 01's definition, level by level
+  -- MATCHING. On a pattern whose wildcards are well placed the byte matcher is document 01's definition, level by level, with either of its two flags
   pub meaning : Meaning
   -- and it differs from the standard's rule exactly at a `+` on an empty last level
   pub difference : Difference

@@ -20,10 +20,9 @@ use Rattle.monitor.proofs.state.KeptFormed.{applied-formed}
 use Rattle.monitor.proofs.Prepared.{prepared-sound}
 use Rattle.monitor.proofs.Replies.{exact-done}
 use Rattle.trace.specs.AsRun.{recordsText, AsRun}
-use Rattle.trace.specs.Groups.{openingOf, ruleAt, messageAt}
+use Rattle.trace.specs.Groups.{messageAt}
 use Rattle.trace.specs.Record.{recordText, closingText}
-use Rattle.trace.specs.Trace.{Messages, Loaded, ruleInto, rulesInto, loadedFrom, loaded, messagesFrom, messagesOf, planned, textFrom, traceText}
-use Rattle.trace.specs.declared.groups.RuleLines.{RuleLines}
+use Rattle.trace.specs.Trace.{Messages, loaded, messagesFrom, messagesOf, planned, textFrom, traceText}
 use Rattle.trace.proofs.groups.GroupLaws.{message-within}
 use Rattle.trace.proofs.run.LoadLaws.{loaded-holds}
 use Rattle.trace.proofs.run.RunLaws.{sentAt}

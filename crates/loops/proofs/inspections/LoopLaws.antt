@@ -21,7 +21,6 @@ use Rattle.monitor.specs.Alerts.{counted}
 use Rattle.monitor.specs.Calls.{fresh}
 use Rattle.monitor.specs.Inspect.{applied}
 use Rattle.monitor.specs.Plan.{planOf}
-use Rattle.monitor.specs.Sound.{Sound}
 use Rattle.monitor.specs.State.{wellFormed, withRules}
 use Rattle.monitor.specs.declared.message.MqttMessage.{MqttMessage}
 use Rattle.monitor.specs.declared.plan.Plan.{Plan}

@@ -1,13 +1,10 @@
 -- Number 10's test, place by place: a table passes exactly where each of its records does, and a state where its five parts do. Assumes nothing.
-use mathlib.Core.Bool.{Bool, true, _&&_}
-use mathlib.Core.List.{List, [], _∷_}
-use mathlib.Core.Path.{_≡_, refl}
-use Prim.Native.Nat.{ℕ, zero, suc, _≤_, _<_}
-use native.Mathlib.Omega.{arith}
+use mathlib.Core.Bool.{true, _&&_}
+use mathlib.Core.Path.{_≡_}
+use Prim.Native.Nat.{_≤_}
 use borrow.Author.Tests.{leb-true, le-leb}
 use lib.Dec.{leb}
-use lib.ListN.{length, take, getD, set, length-take}
-use lib.Seq.{getD-take}
+use lib.ListN.{take}
 use Rattle.laws.proofs.Tests.{both}
 use Rattle.tables.specs.Buckets.{bucketFine}
 use Rattle.tables.specs.Rules.{ruleFine}

@@ -1,29 +1,25 @@
 -- An inspection keeps a state well formed, so that number 10 never comes up in a run that begins without it: each record that is stored is one that was there with its
 -- identity kept and its count of stamps at most 16, or a new one. Assumes nothing.
-use mathlib.Core.Bool.{Bool, true, false, cond, not, _||_}
+use mathlib.Core.Bool.{Bool, true, false}
 use mathlib.Core.List.{List}
 use mathlib.Core.Path.{_≡_, refl}
-use Prim.Native.Nat.{ℕ, _≤_, min}
+use Prim.Native.Nat.{ℕ, _≤_}
 use native.Mathlib.Omega.{arith}
-use borrow.Author.Tests.{ltb-true, ltb-false, le-leb}
-use lib.Dec.{eqb, leb, ltb}
-use lib.ListN.{length, take, getD, set}
+use borrow.Author.Tests.{ltb-true, ltb-false}
+use lib.Dec.{eqb, ltb}
+use lib.ListN.{length, take}
 use lib.Seq.{set-out}
 use Rattle.laws.proofs.Cases.{by}
-use Rattle.topics.specs.declared.hashes.ClientHashes.{ClientHashes}
 use Rattle.tables.specs.Buckets.{bucketFine, decide, spend, noBucket, emptyBucket}
 use Rattle.tables.specs.Identity.{idOf}
-use Rattle.tables.specs.Scan.{find}
-use Rattle.tables.specs.Trackers.{trackerFine, holdsTracker, noTracker, fed, feed}
-use Rattle.tables.specs.Windows.{windowFine, holdsClient, noWindow, recorded, connect}
+use Rattle.tables.specs.Trackers.{trackerFine, noTracker}
+use Rattle.tables.specs.Windows.{windowFine, noWindow}
 use Rattle.tables.specs.declared.buckets.RateBucket.{RateBucket}
-use Rattle.tables.specs.declared.trackers.EwmaTracker.{EwmaTracker}
-use Rattle.tables.specs.declared.windows.ClientStormEntry.{ClientStormEntry}
 use Rattle.tables.proofs.buckets.BucketLaws.{fine-spent, fine-made}
 use Rattle.tables.proofs.buckets.StepLaws.{bucketAt, stored, first, Step, hit, put, step}
 use Rattle.tables.proofs.trackers.TrackerLaws.{feed-fine}
 use Rattle.tables.proofs.windows.WindowLaws.{connect-fine}
-use Rattle.monitor.specs.Inspect.{storedAt, applied, inspectRefusal, inspectWith}
+use Rattle.monitor.specs.Inspect.{applied, inspectRefusal, inspectWith}
 use Rattle.monitor.specs.Message.{typeNumber, usedTopic, usedPayload}
 use Rattle.monitor.specs.Plan.{seenOf, spentOf, fedOf, gateIn, planFrom, planOf}
 use Rattle.laws.specs.Lists.{every}

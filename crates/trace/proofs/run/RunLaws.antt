@@ -1,6 +1,6 @@
 -- How a pass goes over the messages of a trace: what is left to print (`Going`) begins where the rules are loaded (`going-start`), goes on with a message (`going-turn`), and ends at the text's end
 -- (`going-end`) or at a refused line (`going-stop`) with the closing lines. Assumes nothing.
-use Prim.Native.Nat.{ℕ, zero, suc, _+_, _-_, _≤_, _<_}
+use Prim.Native.Nat.{ℕ, suc, _+_, _-_, _≤_, _<_}
 use mathlib.Core.Path.{_≡_, refl, sym, ap, _∙_}
 use mathlib.Core.Bool.{Bool, true, false}
 use mathlib.Core.List.{List, _++_}

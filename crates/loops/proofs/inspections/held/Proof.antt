@@ -24,8 +24,8 @@ free-rules-requires c κs = search needs
 loop-holds : tie.Need-loop-holds Inv-loop μ-loop
 loop-holds c = (omega arith, ruled-none (c .free-rules .ensures))
 
-pattern-of-requires : tie.Need-pattern-of-requires Inv-loop μ-loop
-pattern-of-requires c κs = search needs
+pattern-at-requires : tie.Need-pattern-at-requires Inv-loop μ-loop
+pattern-at-requires c κs = search needs
 
 slice-aggregate-plan-rule : tie.Need-slice-aggregate-plan-rule Inv-loop μ-loop
 slice-aggregate-plan-rule c = search needs
@@ -42,7 +42,7 @@ mul-rules c = record { fits = omega (arith, array-set-from-rules c) }
 -- the rules after the store, where the ways from its test meet
 rules-are : (c : tie.Joined1 Inv-loop μ-loop)
     → let pattern = c .before .before .before .before in
-    holding Block (c .if1 .rules) (c .if1 .rule-count) ≡ withPattern (ruled (pattern .before .before .loop .k)) (pattern .pattern-of .result)
+    holding Block (c .if1 .rules) (c .if1 .rule-count) ≡ withPattern (ruled (pattern .before .before .loop .k)) (pattern .pattern-at .result)
 rules-are c =
     let em = c .before .before .before .before .before .before .loop .inv .1 in
     let e = c .before .before .plan-rule .ensures in
@@ -61,7 +61,7 @@ loop-again : tie.Need-loop-again Inv-loop μ-loop
 loop-again c =
     let pattern = c .before .before .before .before in
     let test = pattern .before in
-    (omega (arith, test .loop-test .taken), ruled-turn (test .before .loop .k) (pattern .pattern-of .ensures) (rules-are c))
+    (omega (arith, test .loop-test .taken), ruled-turn (test .before .loop .k) (pattern .pattern-at .ensures) (rules-are c))
 
 slice-aggregate-plan-rule-2 : tie.Need-slice-aggregate-plan-rule-2 Inv-loop μ-loop
 slice-aggregate-plan-rule-2 c = search needs
@@ -99,7 +99,7 @@ held-spec =
     μ-loop
     free-rules-requires
     loop-holds
-    pattern-of-requires
+    pattern-at-requires
     slice-aggregate-plan-rule
     plan-rule-requires
     mul-rules

@@ -42,8 +42,8 @@ loop-holds c = (omega arith, refl, omega (arith, c .before .before .if2 .left), 
 add-to : tie.Need-add-to Inv-loop μ-loop
 add-to c = search needs
 
-message-at-requires : tie.Need-message-at-requires Inv-loop μ-loop
-message-at-requires c κs = search needs
+loop-message-requires : tie.Need-loop-message-requires Inv-loop μ-loop
+loop-message-requires c κs = search needs
 
 sub-plan-for : tie.Need-sub-plan-for Inv-loop μ-loop
 sub-plan-for c = search needs
@@ -158,8 +158,8 @@ loop-again c =
       omega (arith, test .loop-test .taken),
       from-turn (length (a .topics .now)) (a .width) (l .loop .k) (inv .1) (c .next-from .ensures),
       rw (c .next-from .ensures) (next-within (length (a .topics .now)) (a .width) (l .loop .from) (l .before .before .before .if2 .left)),
-      state-turn _ (a .topics .now) (a .width) (a .size) (l .loop .k) (inv .3) (msg .message-at .ensures) (inv .1) (plan .plan-for .ensures) stored,
-      allowed-turn _ (a .topics .now) (a .width) (a .size) (l .loop .k) (inv .3) (msg .message-at .ensures) (inv .1) (plan .plan-for .ensures) (inv .4) (c .before .count-if .ensures),
+      state-turn _ (a .topics .now) (a .width) (a .size) (l .loop .k) (inv .3) (msg .loop-message .ensures) (inv .1) (plan .plan-for .ensures) stored,
+      allowed-turn _ (a .topics .now) (a .width) (a .size) (l .loop .k) (inv .3) (msg .loop-message .ensures) (inv .1) (plan .plan-for .ensures) (inv .4) (c .before .count-if .ensures),
     )
 
 returns-3 : tie.Need-returns-3 Inv-loop μ-loop
@@ -181,7 +181,7 @@ hub-loop-spec =
     readied-requires
     loop-holds
     add-to
-    message-at-requires
+    loop-message-requires
     sub-plan-for
     part-plan-for-start
     part-plan-for-end
