@@ -19,8 +19,9 @@ def lines(files):
 def sizes(crate):
     """Lines of code, of specs, of the proofs of single functions (a folder each), and of the laws that these share."""
     folder = Path("crates", crate)
-    laws = set(folder.glob("proofs/*.antt"))
-    proofs = set(folder.glob("proofs/**/*.antt")) - laws
+    files = set(folder.glob("proofs/**/*.antt"))
+    proofs = {file for file in files if file.stem == "Proof" or file.parent.name == "Proof"}
+    laws = files - proofs
     return [lines(files) for files in (folder.glob("src/**/*.rt"), folder.glob("specs/**/*.antt"), proofs, laws)]
 
 

@@ -39,7 +39,7 @@ module _ {A : Type 0} (p : A → Bool) where
   every-at (x ∷ xs) d (suc i) e h = every-at xs d i (every-both x xs e .1) (omega arith)
 
   -- the one at each place passes: so do all
-  pub every-each : (l : List A) (d : A) → ((i : ℕ) → i < length l → p (getD l i d) ≡ true) → every p l ≡ true
+  every-each : (l : List A) (d : A) → ((i : ℕ) → i < length l → p (getD l i d) ≡ true) → every p l ≡ true
   unfolding every
   every-each [] d f = refl
   every-each (x ∷ xs) d f = rw (f 0 (omega arith)) (every-each xs d (λ i h. f (suc i) (omega arith)))

@@ -16,7 +16,7 @@ module _ {A H : Type 0} (f : H → A → H) where
 
   module _ (s : List A) where
     -- the fold over what is left takes the next element first
-    pub fold-at : (h : H) (i : ℕ) (d : A) → i < length s → foldl f h (drop i s) ≡ foldl f (f h (getD s i d)) (drop (i + 1) s)
+    fold-at : (h : H) (i : ℕ) (d : A) → i < length s → foldl f h (drop i s) ≡ foldl f (f h (getD s i d)) (drop (i + 1) s)
     fold-at h i d l = rw (drop-cons s i d, add-one)
 
     module _ {h t : H} {i : ℕ} (inv : foldl f h (drop i s) ≡ t) where

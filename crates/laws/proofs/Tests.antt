@@ -42,11 +42,6 @@ pub guard-on : (g test : Bool) {answer : Bool} → not g ≡ false → answer �
 guard-on true test e a = a
 guard-on false test e a = never (sym e)
 
--- nothing holds together with what fails
-pub and-false : (a : Bool) → a && false ≡ false
-and-false true = refl
-and-false false = refl
-
 -- three alternatives, each of a first and a rest: some first, or some rest
 pub or-pairs : (a b c x y z : Bool) → (a || x) || (b || y) || (c || z) ≡ (a || b || c) || (x || y || z)
 or-pairs true b c x y z = refl

@@ -51,7 +51,7 @@ found-is (w ∷ ws) l h =
     (λ t. let g = rw (t, wordIndex) at h in rw (t, wordIndex) (found-is ws l (omega arith)))
 
 -- what is written of a place is read as it
-pub word-read : (ws : List ℕ) (k : ℕ) → different (wordsOf ws) ≡ true → k < length (wordsOf ws) → wordIndex (wordsOf ws) (wordText ws k) ≡ k
+word-read : (ws : List ℕ) (k : ℕ) → different (wordsOf ws) ≡ true → k < length (wordsOf ws) → wordIndex (wordsOf ws) (wordText ws k) ≡ k
 unfolding wordText
 word-read ws k d h = found-at (wordsOf ws) k d h
 
@@ -60,7 +60,7 @@ unfolding wordOf
 word-value ws k d h = rw (word-read ws k d h, lt-ltb k (length (wordsOf ws)) h)
 
 -- what is read as a place is what is written of it
-pub word-unique : (ws l : List ℕ) (k : ℕ) → wordIndex (wordsOf ws) l ≡ k → k < length (wordsOf ws) → l ≡ wordText ws k
+word-unique : (ws l : List ℕ) (k : ℕ) → wordIndex (wordsOf ws) l ≡ k → k < length (wordsOf ws) → l ≡ wordText ws k
 unfolding wordText
 word-unique ws l k e h = rw e at (found-is (wordsOf ws) l (rw e h))
 

@@ -23,7 +23,7 @@ module _ (m : MqttMonitor) (c : Call) (w : wellFormed m ≡ true) (exact : Exact
   payload-lent = omega (arith, exact .1)
 
   -- no number refuses it
-  pub exact-taken : inspectRefusal m (c .msg) (c .topic) (c .payload) ≡ 0
+  exact-taken : inspectRefusal m (c .msg) (c .topic) (c .payload) ≡ 0
   unfolding inspectRefusal
   exact-taken = rw (w, le-ltb _ _ topic-lent, le-ltb _ _ payload-lent)
 

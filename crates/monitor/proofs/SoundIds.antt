@@ -26,7 +26,7 @@ abbrev fields : Id → Id
 fields i = record { hash = i .hash; hash2 = i .hash2; prefix = i .prefix; «prefix_len» = i .«prefix_len»; len = i .len; «suffix_hash» = i .«suffix_hash» }
 
 -- equal fields
-pub same-id : (a b : Id) → sameId a b ≡ true → a ≡ b
+same-id : (a b : Id) → sameId a b ≡ true → a ≡ b
 unfolding sameId
 same-id a b e =
     let h = eqb (a .hash) (b .hash) in

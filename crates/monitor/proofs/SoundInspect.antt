@@ -2,42 +2,25 @@
 -- 0. Assumes nothing.
 use mathlib.Core.Bool.{Bool, true, false}
 use mathlib.Core.List.{List}
-use mathlib.Core.Path.{_≡_}
-use Prim.Native.Nat.{ℕ, _+_, _%_, _^_}
-use native.Mathlib.Omega.{arith}
-use borrow.Author.Tests.{eqb-false}
+use Prim.Native.Nat.{ℕ}
 use lib.Dec.{eqb, ltb}
 use lib.ListN.{take}
 use Rattle.topics.specs.Hashes.{clientHashes}
 use Rattle.topics.specs.Payload.{payloadHash}
 use Rattle.laws.proofs.Cases.{by}
-use Rattle.laws.proofs.Folds.{fold-keeps}
 use Rattle.tables.specs.Identity.{idOf}
-use Rattle.monitor.specs.Alerts.{idAfter, noneRaised, raise, raiseAll}
 use Rattle.monitor.specs.Inspect.{storedAt, applied, inspectRefusal, inspectWith}
 use Rattle.monitor.specs.Message.{typeNumber, usedTopic, usedPayload}
 use Rattle.monitor.specs.Plan.{seenOf, spentOf, fedOf, gateIn, planFrom, planOf}
 use Rattle.monitor.specs.Sound.{SoundBuckets, SoundWindows, SoundTrackers, Sound}
-use Rattle.monitor.specs.declared.alerts.Raised.{Raised}
 use Rattle.monitor.specs.declared.message.MqttMessage.{MqttMessage}
 use Rattle.monitor.specs.declared.state.MqttMonitor.{MqttMonitor}
+use Rattle.monitor.proofs.alerts.AlertLaws.{raised-id}
 use Rattle.monitor.proofs.state.KeptFormed.{applied-formed}
 use Rattle.monitor.proofs.SoundBuckets.{buckets-after}
 use Rattle.monitor.proofs.SoundTrackers.{trackers-after}
 use Rattle.monitor.proofs.SoundWindows.{windows-after}
 use Rattle.monitor.proofs.inspection.ApplyLaws.{stored-or-not}
-
--- the next id is never 0
-id-after : (id : ℕ) → idAfter id ≡ 0 → ⊥
-id-after id = by (eqb ((id + 1) % 2 ^ 64) 0) (λ e. rw e (λ z. omega arith)) (λ e. rw e (λ z. eqb-false ((id + 1) % 2 ^ 64) 0 e z))
-
-raise-id : (hash : List ℕ) (t : ℕ) (a : Raised) (k : ℕ) → (a .«next_id» ≡ 0 → ⊥) → raise hash t a k .«next_id» ≡ 0 → ⊥
-unfolding raise
-raise-id hash t a k n = by (ltb (a .count) 4) (λ e. rw e (id-after (a .«next_id»))) (λ e. rw e n)
-
-all-ids : (hash : List ℕ) (t id total : ℕ) (kinds : List ℕ) → (id ≡ 0 → ⊥) → raiseAll hash t id total kinds .«next_id» ≡ 0 → ⊥
-unfolding raiseAll
-all-ids hash t id total kinds n = fold-keeps (raise hash t) (λ a. a .«next_id» ≡ 0 → ⊥) (raise-id hash t) {h = noneRaised id total} kinds n
 
 module _ {m : MqttMonitor} (s : Sound m) (msg : MqttMessage) (topic : List ℕ) where
   -- the tables with what they are asked to store
@@ -79,7 +62,7 @@ module _ {m : MqttMonitor} (s : Sound m) (msg : MqttMessage) (topic : List ℕ) 
         threshold-high = s .threshold-high;
         window-low = s .window-low;
         window-high = s .window-high;
-        next-id = all-ids (payloadHash payload) _ _ _ _ (s .next-id);
+        next-id = raised-id (payloadHash payload) _ _ _ _ (s .next-id);
       }
 
 -- an inspection

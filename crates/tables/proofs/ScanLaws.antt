@@ -132,7 +132,7 @@ module _ {A : Type 0} (f : A → ℕ) (d : A) where
       go true t = some {l = x ∷ l} {at = 0} (omega arith) refl (below x l (f x) (omega arith) (λ j k. let r = g j k in omega (arith, leb-true)))
       go false t = some {l = x ∷ l} {at = suc at} (omega arith) e (below x l u (omega (arith, leb-false)) g)
 
-  pub least-is : (l : List A) → IsLeast f d l (leastOf f any l)
+  least-is : (l : List A) → IsLeast f d l (leastOf f any l)
   unfolding leastOf
   least-is [] = none
   least-is (x ∷ xs) = in-front x (least-is xs)

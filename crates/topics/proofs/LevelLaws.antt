@@ -1,4 +1,4 @@
--- Levels split and join: joined by slashes the levels of a text are the text again, and no level holds a slash. Assumes nothing.
+-- Levels split and join: joined by slashes the levels of a text are the text again, and no level holds a slash. Request C-20, which makes names of levels, waits for them. Assumes nothing.
 use mathlib.Core.Bool.{false}
 use mathlib.Core.List.{List, [], _∷_, List·Memᴰ, List·Memᴰ·cases-cons, List·Memᴰ·not-nil}
 use mathlib.Core.Logic.{⊎-elim}
@@ -17,7 +17,7 @@ join-cons c l [] = refl
 join-cons c l (m ∷ ms) = refl
 
 -- a text is its levels joined
-pub joined : (s : List ℕ) → joinLevels (levels s) ≡ s
+joined : (s : List ℕ) → joinLevels (levels s) ≡ s
 unfolding joinLevels firstLevel restLevels
 joined [] = refl
 joined (c ∷ s) =
@@ -26,7 +26,7 @@ joined (c ∷ s) =
     (λ e. rw (e, firstLevel, restLevels, join-cons c (firstLevel s) (restLevels s), joined s))
 
 -- no level holds a slash
-pub first-no-slash : (s : List ℕ) → has 47 (firstLevel s) ≡ false
+first-no-slash : (s : List ℕ) → has 47 (firstLevel s) ≡ false
 unfolding firstLevel has
 first-no-slash [] = refl
 first-no-slash (c ∷ s) = by (eqb c 47) (λ e. rw (e, firstLevel)) (λ e. rw (e, firstLevel, e, has) (first-no-slash s))

@@ -28,7 +28,7 @@ use Rattle.trace.proofs.run.LoadLaws.{loaded-holds}
 use Rattle.trace.proofs.run.RunLaws.{sentAt}
 
 -- the loaded monitor is a fresh one with rules
-pub loaded-prepared : (s : List ℕ) → Prepared (loaded s .monitor)
+loaded-prepared : (s : List ℕ) → Prepared (loaded s .monitor)
 loaded-prepared s = loaded-holds Prepared made (λ m p action policy rate h. rule h p action policy rate) s
 
 -- all calls of a list lend exactly what their messages use
@@ -51,7 +51,7 @@ from-exact (suc k) s at line =
     tt)
 
 -- so do the messages of a trace
-pub messages-exact : (s : List ℕ) → AllExact (messagesOf s .sent)
+messages-exact : (s : List ℕ) → AllExact (messagesOf s .sent)
 unfolding messagesOf
 messages-exact s =
     whichever (λ (x : Messages). AllExact (x .sent)) (eqb (loaded s .number) 0) (from-exact (length s + 1) s (loaded s .next) (loaded s .line)) tt

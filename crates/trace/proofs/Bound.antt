@@ -42,7 +42,7 @@ text-short (x ∷ xs) m n number line c h a b =
     ))
 
 -- the messages from a place on: how many there are at most, and how they end
-pub sent-few : (k : ℕ) (s : List ℕ) (at line : ℕ)
+sent-few : (k : ℕ) (s : List ℕ) (at line : ℕ)
     → (44 * length (messagesFrom k s at line .sent) ≤ length s - at) × (messagesFrom k s at line .number ≤ 26)
     × (messagesFrom k s at line .line ≤ line + 7 * length (messagesFrom k s at line .sent) + 7)
 unfolding messagesFrom
@@ -155,7 +155,7 @@ rules-go (suc k) s l e =
     (λ t. rw t (omega arith))
 
 -- the opening of a text that was loaded takes 16 or more
-pub loaded-further : (s : List ℕ) → loaded s .number ≡ 0 → 16 ≤ loaded s .next
+loaded-further : (s : List ℕ) → loaded s .number ≡ 0 → 16 ≤ loaded s .next
 unfolding loaded loadedFrom
 loaded-further s =
     by (leb (length s) 65536)

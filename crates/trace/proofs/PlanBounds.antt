@@ -129,7 +129,7 @@ pub record Counted (m : MqttMonitor) : Type 0 where
   pub total64 : m .«total_alerts» < 2 ^ 64
 
 module _ (matcher : List ℕ → List ℕ → Bool) (m : MqttMonitor) (msg : MqttMessage) (topic payload : List ℕ) (c : Counted m) where
-  pub plan-bounded : Bounded (planOf matcher m msg topic payload .raised)
+  plan-bounded : Bounded (planOf matcher m msg topic payload .raised)
   unfolding planOf planFrom raiseAll
   plan-bounded =
       fold-bounded (payloadHash payload) (payload-length payload) (msg .«timestamp_us»)

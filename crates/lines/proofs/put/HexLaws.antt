@@ -13,7 +13,7 @@ unfolding hexText
 hex-length [] = refl
 hex-length (b ∷ s) = omega (arith, hex-length s)
 
-pub hex-append : (s t : List ℕ) → hexText (s ++ t) ≡ hexText s ++ hexText t
+hex-append : (s t : List ℕ) → hexText (s ++ t) ≡ hexText s ++ hexText t
 unfolding hexText
 hex-append [] t = refl
 hex-append (b ∷ s) t = rw (hex-append s t)

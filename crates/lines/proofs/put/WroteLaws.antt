@@ -47,7 +47,7 @@ wrote-none d at = record { next = omega arith; bytes = refl }
 pub wrote-out : (d : List ℕ) {at : ℕ} (t : List ℕ) → length d ≤ at → Wrote d d at t at
 wrote-out d {at} t h = record { next = omega arith; bytes = sym (sets-out d at t h) }
 
-pub wrote-byte : (d : List ℕ) {at : ℕ} (b : ℕ) → at < length d → Wrote d (set d at b) at (b ∷ []) (at + 1)
+wrote-byte : (d : List ℕ) {at : ℕ} (b : ℕ) → at < length d → Wrote d (set d at b) at (b ∷ []) (at + 1)
 wrote-byte d b h = record { next = omega arith; bytes = refl }
 
 -- a loop that writes `s` byte by byte: it stands at place `i` of `s` and at place `p` of the buffer

@@ -57,7 +57,7 @@ module _ (s : List ℕ) (at : ℕ) (key : List ℕ) {p : Span} (e : p ≡ spanOf
 
 module _ (s : List ℕ) (at : ℕ) (key : List ℕ) {line : Field} (e : line ≡ lineAt s at key) where
   -- a line that was read begins at its place, and the place is inside
-  pub line-start : line .number ≡ 0 → (placeIn s at ≡ at) × (at ≤ length s)
+  line-start : line .number ≡ 0 → (placeIn s at ≡ at) × (at ≤ length s)
   unfolding lineAt keyed spanOf
   line-start z =
       by (spanOf s at .whole)

@@ -52,7 +52,7 @@ spare-more (c ∷ []) h g = absurd (g refl)
 spare-more (c ∷ (d ∷ l)) h g = refl
 
 -- more digits never make a number less
-pub digits-grow : (v : ℕ) (l : List ℕ) → v ≤ digitsAfter v l
+digits-grow : (v : ℕ) (l : List ℕ) → v ≤ digitsAfter v l
 unfolding digitsAfter
 digits-grow v [] = omega arith
 digits-grow v (c ∷ cs) = omega (arith, digits-grow (withDigit v c) cs)

@@ -38,7 +38,7 @@ hex-letter c e h =
     (λ a b. (omega arith, (rw (le-ltb _ _ h), omega arith)))
 
 -- what is left at a place where a pair of digits stands: its byte, and what is left after it
-pub unhex-pair : (l : List ℕ) (i : ℕ) → i * 2 + 1 < length l → unhex (drop (i * 2) l) ≡ (hexValue (getD l (i * 2) 0) * 16 + hexValue (getD l (i * 2 + 1) 0)) ∷ unhex (drop ((i + 1) * 2) l)
+unhex-pair : (l : List ℕ) (i : ℕ) → i * 2 + 1 < length l → unhex (drop (i * 2) l) ≡ (hexValue (getD l (i * 2) 0) * 16 + hexValue (getD l (i * 2 + 1) 0)) ∷ unhex (drop ((i + 1) * 2) l)
 unfolding unhex
 unhex-pair l i h =
     let e : i * 2 + 1 + 1 ≡ (i + 1) * 2 = omega arith in

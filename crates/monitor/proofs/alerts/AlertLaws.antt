@@ -65,7 +65,7 @@ id-on id h =
     let z : eqb (id + 1) 0 ≡ false = ne-eqb (id + 1) 0 (λ q. omega arith) in rw (e, z)
 
 -- and are never 0
-pub id-after-0 : (id : ℕ) → idAfter id ≡ 0 → ⊥
+id-after-0 : (id : ℕ) → idAfter id ≡ 0 → ⊥
 id-after-0 id e = by (eqb ((id + 1) % 2 ^ 64) 0) (λ t. let z : _≡_ {A = ℕ} 1 0 = rw t at e in omega arith) (λ t. eqb-false _ _ t (rw t at e))
 
 module _ (hash : List ℕ) (t : ℕ) where

@@ -1,5 +1,5 @@
 -- A test on the kinds of what was found, kind by kind; so which of them deny, and where none carries the payload hash that hash need not be made. Assumes nothing.
-use mathlib.Core.Bool.{Bool, true, false, cond, _&&_, _||_, or-false, true≢false}
+use mathlib.Core.Bool.{Bool, true, false, cond, _&&_, _||_, or-false, or-assoc, and-false}
 use mathlib.Core.List.{List, [], _∷_, _++_, foldl}
 use mathlib.Core.Path.{_≡_, refl, sym, _∙_}
 use Prim.Native.Nat.{ℕ}
@@ -8,23 +8,11 @@ use borrow.Author.Tests.{ltb-false}
 use lib.Dec.{eqb, ltb}
 use lib.ListN.{replicate}
 use Rattle.laws.proofs.Cases.{by}
+use Rattle.laws.proofs.Tests.{neither}
 use Rattle.monitor.specs.Alerts.{when, kindsOf, denies, hashOf, raise, raiseAll}
 use Rattle.laws.specs.Lists.{some}
 use Rattle.monitor.specs.declared.alerts.Findings.{Findings}
 use Rattle.monitor.specs.declared.alerts.Raised.{Raised}
-
--- laws of tests
-and-false : (b : Bool) → b && false ≡ false
-and-false true = refl
-and-false false = refl
-
-or-assoc : (a b c : Bool) → a || b || c ≡ a || (b || c)
-or-assoc true b c = refl
-or-assoc false b c = refl
-
-neither : (a b : Bool) → a || b ≡ false → (a ≡ false) × (b ≡ false)
-neither true b e = absurd (true≢false e)
-neither false b e = (refl, e)
 
 module _ (p : ℕ → Bool) where
   some-append : (l k : List ℕ) → some p (l ++ k) ≡ some p l || some p k
@@ -38,7 +26,7 @@ module _ (p : ℕ → Bool) where
   some-when false k = refl
 
   -- a test on the kinds of what was found
-  pub some-kinds : (f : Findings)
+  some-kinds : (f : Findings)
       → some p (kindsOf f) ≡ f .clock && p 8 || f .broad && p 11 || f .qos && p 4 || ltb 0 (f .denial) && p (f .denial) || f .anomaly && p 7
   unfolding kindsOf
   some-kinds f =

@@ -17,7 +17,7 @@ use Rattle.monitor.specs.declared.state.MqttMonitor.{MqttMonitor}
 use Rattle.monitor.specs.declared.state.Outcome.the-variants.{Done, Refused}
 
 -- a state that passes the test has at most 32 rules
-pub formed-count : (m : MqttMonitor) → wellFormed m ≡ true → m .«rule_count» ≤ 32
+formed-count : (m : MqttMonitor) → wellFormed m ≡ true → m .«rule_count» ≤ 32
 unfolding wellFormed
 formed-count m e =
     let n = leb (m .«rule_count») 32 in

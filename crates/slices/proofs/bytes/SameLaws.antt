@@ -39,7 +39,7 @@ same-sym (x ∷ a) [] = refl
 same-sym (x ∷ a) (y ∷ b) = rw (eqb-sym x y, same-sym a b)
 
 -- lists that the test takes are equally long
-pub same-length : (a b : List ℕ) → same a b ≡ true → length a ≡ length b
+same-length : (a b : List ℕ) → same a b ≡ true → length a ≡ length b
 same-length a b e = ap length (same-true a b e)
 
 -- lists of two lengths are refused

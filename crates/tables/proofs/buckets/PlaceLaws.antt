@@ -45,7 +45,7 @@ late-down : (t u v : ℕ) → u ≤ v → late t v ≡ true → late t u ≡ tru
 late-down t u v h e = let k = ltb-true 300000000 (t - v) e in lt-ltb 300000000 (t - u) (omega arith)
 
 -- so the least that is expired is the least of all, if that is expired
-pub least-expired : (t : ℕ) (bs : List RateBucket) → leastOf timeOf (λ b. isExpired b t) bs ≡ kept (late t) (leastOf timeOf any bs)
+least-expired : (t : ℕ) (bs : List RateBucket) → leastOf timeOf (λ b. isExpired b t) bs ≡ kept (late t) (leastOf timeOf any bs)
 unfolding isExpired
 least-expired t bs = least-passing timeOf (λ b. isExpired b t) (late t) (λ b. refl) (late-down t) bs
 
@@ -58,12 +58,12 @@ module _ (bs : List RateBucket) (t : ℕ) {at : ℕ} (here : at ≡ leastPlace (
   least-here : leastOf timeOf any bs ≡ least at (timeOf (getD bs at noBucket))
   least-here = rw here (least-at timeOf noBucket bs some)
 
-  pub expired-here : isExpired (getD bs at noBucket) t ≡ true
+  expired-here : isExpired (getD bs at noBucket) t ≡ true
       → leastOf timeOf (λ b. isExpired b t) bs ≡ least at (timeOf (getD bs at noBucket))
   unfolding isExpired
   expired-here e = least-expired t bs ∙ (rw (least-here, e))
 
-  pub none-expired : isExpired (getD bs at noBucket) t ≡ false → leastOf timeOf (λ b. isExpired b t) bs ≡ absent
+  none-expired : isExpired (getD bs at noBucket) t ≡ false → leastOf timeOf (λ b. isExpired b t) bs ≡ absent
   unfolding isExpired
   none-expired e = least-expired t bs ∙ (rw (least-here, e))
 

@@ -67,7 +67,7 @@ one a b =
 
 module _ (t u : List ℕ) (lt : length t < 65536) (lu : length u < 65536) where
   -- an identity that the test takes is equal
-  pub is-of-made : isOf (idOf t) (idOf u) ≡ true → idOf t ≡ idOf u
+  is-of-made : isOf (idOf t) (idOf u) ≡ true → idOf t ≡ idOf u
   is-of-made e = one (told (idOf t) t lt (is-of-refl (idOf t))) (told (idOf t) u lu e)
 
   -- up to 32 bytes the topics themselves are
@@ -77,13 +77,6 @@ module _ (t u : List ℕ) (lt : length t < 65536) (lu : length u < 65536) where
       let b = told (idOf t) u lu e in
       let n : length t ≡ length u = a .long ∙ sym (b .long) in
       sym (take-all 32 t h) ∙ a .first ∙ sym (b .first) ∙ take-all 32 u (omega arith)
-
--- the order does not matter
-pub is-of-sym : (t u : List ℕ) → length t < 65536 → length u < 65536 → isOf (idOf t) (idOf u) ≡ isOf (idOf u) (idOf t)
-is-of-sym t u lt lu =
-    alike _ _
-    (λ e. rw (is-of-made t u lt lu e) (is-of-refl (idOf u)))
-    (λ e. rw (is-of-made u t lu lt e) (is-of-refl (idOf t)))
 
 -- an identity as it is made of a topic
 pub data OfTopic : Id → Type 0 where

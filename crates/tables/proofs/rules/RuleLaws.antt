@@ -1,5 +1,4 @@
--- What is true of one rule and of the places that the searches of the rule table find. The first half is what code needs: `rule_fine`, the two tests, and the
--- searches of `equal_rule` and of the monitor's `rule_for`. The second is what upper crates reason with. Assumes nothing.
+-- What is true of one rule, for `rule_fine` and the two tests, and of a search of the rule table, for `equal_rule` and the monitor's `rule_for`. Assumes nothing.
 use mathlib.Core.Bool.{Bool, true, false, not, _&&_}
 use mathlib.Core.List.{List}
 use mathlib.Core.Path.{_≡_, sym}
@@ -9,15 +8,13 @@ use borrow.Author.Tests.{lt-leb, le-leb, leb-true, eqb-true, not-true, not-false
 use lib.Dec.{eqb, leb}
 use lib.ListN.{length, take, drop, getD, length-take}
 use lib.Seq.{getD-take}
-use Rattle.slices.specs.Bytes.{same}
 use Rattle.topics.specs.Patterns.{patternRefusal}
 use Rattle.laws.proofs.Tests.{both}
 use Rattle.laws.proofs.Lists.{take-min}
-use Rattle.slices.proofs.bytes.SameLaws.{same-true}
 use Rattle.tables.specs.declared.rules.TopicRule.{TopicRule}
 use Rattle.tables.specs.Scan.{find}
-use Rattle.tables.specs.Rules.{patternOf, ruleFine, equalRule, firstRule, noRule}
-use Rattle.tables.proofs.ScanLaws.{find-here, find-next, find-done, find-le, find-lt}
+use Rattle.tables.specs.Rules.{patternOf, ruleFine, noRule}
+use Rattle.tables.proofs.ScanLaws.{find-here, find-next, find-done}
 
 module _ (r : TopicRule) where
   -- the bytes that the code lends are the rule's pattern
@@ -64,38 +61,3 @@ module _ (q : List ℕ → Bool) (rules : List TopicRule) (count : ℕ) (i : ℕ
 
   pub seek-done : i ≤ n → n ≤ i → i ≡ find (passing q) (take count rules)
   seek-done h g = let m = many in find-done (passing q) (take count rules) (omega arith) (omega arith) found
-
--- the first such rule of the first `n`: its place is within them, and it passes
-module _ (q : List ℕ → Bool) (rules : List TopicRule) (n : ℕ) where
-  found-le : find (passing q) (take n rules) ≤ min n (length rules)
-  found-le = let h = find-le (passing q) (take n rules) in omega (arith, length-take n rules)
-
-  found-lt : find (passing q) (take n rules) < min n (length rules)
-      → (getD rules (find (passing q) (take n rules)) noRule .active ≡ true) × (q (patternOf (getD rules (find (passing q) (take n rules)) noRule)) ≡ true)
-  found-lt h =
-      let e = find-lt (passing q) (take n rules) noRule (omega (arith, length-take n rules)) in
-      both _ _ (rw (getD-take n rules (find (passing q) (take n rules)) noRule (omega arith)) at e)
-
--- the first rule that takes a topic: it is live and takes it
-module _ (matcher : List ℕ → List ℕ → Bool) (topic : List ℕ) (rules : List TopicRule) (n : ℕ) where
-  pub first-le : firstRule matcher topic rules n ≤ min n (length rules)
-  unfolding firstRule
-  first-le = found-le (matcher topic) rules n
-
-  pub first-takes : firstRule matcher topic rules n < min n (length rules)
-      → (getD rules (firstRule matcher topic rules n) noRule .active ≡ true)
-      × (matcher topic (patternOf (getD rules (firstRule matcher topic rules n) noRule)) ≡ true)
-  unfolding firstRule
-  first-takes h = found-lt (matcher topic) rules n h
-
--- the rule with an equal pattern: it is live and has it
-module _ (pattern : List ℕ) (rules : List TopicRule) (n : ℕ) where
-  pub equal-le : equalRule pattern rules n ≤ min n (length rules)
-  unfolding equalRule
-  equal-le = found-le (λ p. same p pattern) rules n
-
-  pub equal-has : equalRule pattern rules n < min n (length rules)
-      → (getD rules (equalRule pattern rules n) noRule .active ≡ true)
-      × (patternOf (getD rules (equalRule pattern rules n) noRule) ≡ pattern)
-  unfolding equalRule
-  equal-has h = let f = found-lt (λ p. same p pattern) rules n h in (f .0, same-true _ _ (f .1))

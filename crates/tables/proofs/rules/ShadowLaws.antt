@@ -1,7 +1,7 @@
 -- The shadow count by two loops: the outer passes the rules in order, the inner asks the earlier ones until one covers. First what one pass of the inner
--- loop learns, then what one turn of the outer counts; last, that the count is at most the number of rules. Assumes nothing.
-use mathlib.Core.Bool.{Bool, true, false, cond, _&&_, _||_, false≢true, true≢false}
-use mathlib.Core.List.{List, [], _∷_, _++_}
+-- loop learns, then what one turn of the outer counts. Assumes nothing.
+use mathlib.Core.Bool.{Bool, true, false, cond, _&&_, _||_, false≢true, true≢false, and-false}
+use mathlib.Core.List.{List, _∷_}
 use mathlib.Core.Path.{_≡_, refl, sym, _∙_}
 use Prim.Native.Nat.{ℕ, _+_, _<_, _≤_, min}
 use native.Mathlib.Numerals.{add-one}
@@ -9,7 +9,6 @@ use native.Mathlib.Omega.{arith}
 use lib.ListN.{length, take, drop, getD, length-take, drop-of-length-le}
 use lib.Seq.{drop-cons, take-suc, getD-take, length-take-le}
 use Rattle.topics.specs.Matching.{portMatches}
-use Rattle.laws.proofs.Cases.{by}
 use Rattle.tables.specs.declared.rules.TopicRule.{TopicRule}
 use Rattle.tables.specs.Rules.{patternOf, covered, shadowedAfter, shadowCount, noRule}
 
@@ -30,10 +29,6 @@ or-next : (a b c : Bool) → a && b ≡ false → a && (b || c) ≡ a && c
 or-next true true c e = absurd (true≢false e)
 or-next true false c e = refl
 or-next false b c e = refl
-
-and-false : (a : Bool) → a && false ≡ false
-and-false true = refl
-and-false false = refl
 
 -- the inner loop, at the earlier rule `i` of `at`
 module _ (later : TopicRule) (rules : List TopicRule) (i at : ℕ) (fits : at ≤ length rules) where
@@ -88,14 +83,3 @@ module _ (rules : List TopicRule) (count at shadowed : ℕ) {n : ℕ} (full : le
       let m = length-take count rules in
       let z : shadowedAfter (take at rules) (drop at (take count rules)) ≡ 0 = rw (drop-of-length-le (take count rules) {i = at} (omega arith)) in
       omega arith
-
--- at most one a rule
-after-le : (before l : List TopicRule) → shadowedAfter before l ≤ length l
-unfolding shadowedAfter
-after-le before [] = omega arith
-after-le before (r ∷ rs) =
-    let ih = after-le (before ++ (r ∷ [])) rs in
-    by (hidden r before) (λ e. rw e (omega arith)) (λ e. rw e (omega arith))
-
-pub shadow-le : (rules : List TopicRule) (n : ℕ) → shadowCount rules n ≤ n
-shadow-le rules n = let h = after-le [] (take n rules) in omega (arith, length-take n rules)

@@ -1,6 +1,6 @@
--- Payload trackers: what a fed message does to the table. Last, what the crates above need: the place is one of the table's, and the tracker handed back is
--- live and, if the table's were and the topic's prefix length is, fine. Assumes nothing.
-use mathlib.Core.Path.{_≡_, refl}
+-- Payload trackers: what a fed message does to the table. Last, what the crates above need: the tracker handed back
+-- is fine if the table's were and the topic's prefix length is. Assumes nothing.
+use mathlib.Core.Path.{_≡_}
 use mathlib.Core.Bool.{Bool, true, not, _&&_}
 use mathlib.Core.List.{List}
 use Prim.Native.Nat.{ℕ, _<_, _≤_}
@@ -12,8 +12,6 @@ use Rattle.tables.specs.declared.trackers.TrackerDecision.{TrackerDecisi
 use Rattle.tables.specs.Identity.{isRemoved}
 use Rattle.tables.specs.Scan.{find, seat}
 use Rattle.tables.specs.Trackers.{fed, freshTracker, holdsTracker, noTracker, feedAt, feed, trackerFine}
-use Rattle.tables.proofs.ScanLaws.{seat-lt}
-use Rattle.laws.proofs.Tests.{both}
 use Rattle.tables.proofs.LookupLaws.{held, new, looked-up}
 
 -- what a newcomer's place is chosen by: a free one, else the least update time
@@ -47,16 +45,7 @@ module _ (ks : List EwmaTracker) (id : Id) (size t : ℕ) where
   unfolding feed
   feed-either = λ P a b. looked-up (holdsTracker id) ks noTracker at (seat isFree lastUpdate ks) (freshTracker id) P a (λ _. b)
 
-  -- the place is one of the table's
-  pub feed-lt : 0 < length ks → feed ks id size t .at < length ks
-  feed-lt n = feed-either (λ d. d .at < length ks) (λ i l e. l) (seat-lt isFree lastUpdate ks noTracker n)
-
-  -- the tracker handed back is live
-  pub feed-live : feed ks id size t .tracker .active ≡ true
-  unfolding fed holdsTracker
-  feed-live = feed-either (λ d. d .tracker .active ≡ true) (λ i l e. both _ _ e .0) refl
-
-  -- and fine, if all of the table's are and the topic's prefix length is at most 32
+  -- the tracker handed back is fine, if all of the table's are and the topic's prefix length is at most 32
   pub feed-fine : ((j : ℕ) → j < length ks → trackerFine (getD ks j noTracker) ≡ true) → id .«prefix_len» ≤ 32
       → trackerFine (feed ks id size t .tracker) ≡ true
   unfolding fed

@@ -1,5 +1,5 @@
 -- CONNECT windows: the stamps counted one by one, the test of a client's window, and what a CONNECT does to the table. Last, what the crates above need:
--- the place is one of the table's, and the window handed back is live and, if the table's were, fine. Assumes nothing.
+-- the window handed back is fine if the table's were. Assumes nothing.
 use mathlib.Core.Path.{_≡_, refl, sym, _∙_}
 use mathlib.Core.Bool.{Bool, true, false, cond, not, _||_}
 use mathlib.Core.List.{List, [], _∷_, _++_}
@@ -15,8 +15,6 @@ use Rattle.tables.specs.declared.windows.ClientStormEntry.{ClientStormEn
 use Rattle.tables.specs.declared.windows.ConnectDecision.{ConnectDecision}
 use Rattle.tables.specs.Scan.{find, seat}
 use Rattle.tables.specs.Windows.{freshWindow, recorded, countFrom, inWindow, holdsClient, noWindow, connectAt, connect, windowFine}
-use Rattle.tables.proofs.ScanLaws.{seat-lt}
-use Rattle.laws.proofs.Tests.{both}
 use Rattle.tables.proofs.LookupLaws.{held, new, looked-up}
 
 -- what a newcomer's place is chosen by: a free one, else the least last-seen
@@ -79,13 +77,8 @@ module _ (h : ClientHashes) (e : ClientStormEntry) where
   unfolding holdsClient
   client-last p q = let a : e .active ≡ true = not-false _ p in cc (eq-eqb _ _ q)
 
--- a client's window is live
-holds-live : (h : ClientHashes) (e : ClientStormEntry) → holdsClient h e ≡ true → e .active ≡ true
-unfolding holdsClient
-holds-live h e p = both _ (eqb (e .«client_hash») (h .hash)) (both _ (eqb (e .«client_hash2») (h .hash2)) p .0) .0
-
 -- recording keeps a window fine: the count stops at 16
-pub recorded-fine : (e : ClientStormEntry) (t : ℕ) → windowFine e ≡ true → windowFine (recorded e t) ≡ true
+recorded-fine : (e : ClientStormEntry) (t : ℕ) → windowFine e ≡ true → windowFine (recorded e t) ≡ true
 unfolding recorded
 recorded-fine e t = go (e .active) (ltb (e .count) 16) refl
   where
@@ -115,16 +108,7 @@ module _ (cs : List ClientStormEntry) (h : ClientHashes) (t threshold window : �
   unfolding connect
   connect-either = λ P a b. looked-up (holdsClient h) cs noWindow at (seat isFree lastSeen cs) (freshWindow h) P a (λ _. b)
 
-  -- the place is one of the table's
-  pub connect-lt : 0 < length cs → connect cs h t threshold window .at < length cs
-  connect-lt n = connect-either (λ d. d .at < length cs) (λ i l e. l) (seat-lt isFree lastSeen cs noWindow n)
-
-  -- the window handed back is live
-  pub connect-live : connect cs h t threshold window .entry .active ≡ true
-  unfolding recorded
-  connect-live = connect-either (λ d. d .entry .active ≡ true) (λ i l e. holds-live h (getD cs i noWindow) e) refl
-
-  -- and fine, if all of the table's are
+  -- the window handed back is fine, if all of the table's are
   pub connect-fine : ((j : ℕ) → j < length cs → windowFine (getD cs j noWindow) ≡ true) → windowFine (connect cs h t threshold window .entry) ≡ true
   connect-fine fine =
       connect-either (λ d. windowFine (d .entry) ≡ true) (λ i l e. recorded-fine (getD cs i noWindow) t (fine i l)) (recorded-fine (freshWindow h) t refl)

@@ -1,5 +1,5 @@
 -- What proofs here and in crates above need of the hashes: each fits 32 bits, and the payload hash has 32 bytes; what the hashes of an empty and of any
--- other text are; and a slice from a place on. That the words of the payload hash are little-endian (document 01, "Hashes") is shown here too.
+-- other text are. That the words of the payload hash are little-endian (document 01, "Hashes") is shown here too.
 -- Assumes nothing.
 use mathlib.Core.Path.{_≡_, refl}
 use mathlib.Core.Bool.{Bool, true, false, cond}
@@ -9,18 +9,17 @@ use native.Mathlib.Nat.{mod-lt}
 use native.Mathlib.Omega.{arith}
 use lib.Dec.{leb}
 use lib.Pow.{pow-pos}
-use lib.ListN.{length, take, drop, replicate, length-drop}
-use lib.Seq.{take-all}
+use lib.ListN.{length, drop, replicate}
 use Rattle.topics.specs.Hashes.{fnvStep, fnv1a, djbStep, djb2, suffixHash, clientHashes}
 use Rattle.topics.specs.Payload.{streamsOf, leBytes, wordBytes, payloadHash}
 use Rattle.laws.proofs.Folds.{fold-keeps}
 
--- each hash fits 32 bits
+-- each hash fits 32 bits; request C-23, which writes them, waits for that
 pub fnv-lt : (s : List ℕ) → fnv1a s < 2 ^ 32
 unfolding fnv1a
 fnv-lt s = fold-keeps fnvStep (λ h. h < 2 ^ 32) (λ h b l. mod-lt _ (pow-pos 32)) s (omega arith)
 
-pub djb-lt : (s : List ℕ) → djb2 s < 2 ^ 32
+djb-lt : (s : List ℕ) → djb2 s < 2 ^ 32
 unfolding djb2
 djb-lt s = fold-keeps djbStep (λ h. h < 2 ^ 32) (λ h b l. mod-lt _ (pow-pos 32)) s (omega arith)
 
@@ -41,10 +40,6 @@ payload-length (b ∷ d) = refl
 -- a word's least byte comes first: the example of Rust's `u32::to_le_bytes`
 pub least-first : leBytes 0x12345678 ≡ 0x78 ∷ 0x56 ∷ 0x34 ∷ 0x12 ∷ []
 least-first = refl
-
--- a slice from k on, as code reads it, is what is left after k
-pub tail-whole : {A : Type 0} (s : List A) (k : ℕ) → take (length s - k) (drop k s) ≡ drop k s
-tail-whole s k = take-all (length s - k) (drop k s) (omega (arith, length-drop k s))
 
 -- an empty client id, and any other
 pub client-none : (s : List ℕ) → length s ≡ 0 → clientHashes s ≡ record { hash = 0; hash2 = 0 }

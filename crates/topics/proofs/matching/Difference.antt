@@ -16,7 +16,7 @@ neither true b m = sym (and-false m)
 neither false b m = refl
 
 -- for all levels
-pub difference : (ts ps : List (List ℕ)) → matchLevels false ts ps ≡ (matchLevels true ts ps && not (plusAtEmptyLast ts ps))
+difference : (ts ps : List (List ℕ)) → matchLevels false ts ps ≡ (matchLevels true ts ps && not (plusAtEmptyLast ts ps))
 unfolding matchLevels plusAtEmptyLast
 difference [] [] = refl
 difference [] (p ∷ ps) = sym (and-true _)

@@ -26,7 +26,7 @@ outside-name [] p l = rw (and-false (eqb (patternRefusal p) 0))
 outside-name (x ∷ n) p l = absurd (omega arith)
 
 -- what the byte matcher answers of an accepted pattern is the standard's rule
-pub standard-bytes : (n p : List ℕ) → patternRefusal p ≡ 0 → matchesWith true false n p ≡ standardRule n p
+standard-bytes : (n p : List ℕ) → patternRefusal p ≡ 0 → matchesWith true false n p ≡ standardRule n p
 unfolding standardRule
 standard-bytes n p r = meaning true false n p (accepted-placed p r)
 

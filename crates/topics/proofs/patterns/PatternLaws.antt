@@ -72,7 +72,7 @@ none-some [] e = never (sym e)
 none-some (c ∷ p) e = omega arith
 
 -- 0 is handed back for these patterns
-pub accepted : (p : List ℕ) → patternRefusal p ≡ 0 → Accepted p
+accepted : (p : List ℕ) → patternRefusal p ≡ 0 → Accepted p
 unfolding patternRefusal
 accepted p e =
     let placed : ℕ = cond (not (wellPlaced (levels p))) 9 0 in
@@ -89,11 +89,6 @@ accepted p e =
       well-placed = not-false _ (past (not (wellPlaced (levels p))) 0 (k .1) .0);
     }
 
--- and for no others
-pub accepted-back : (p : List ℕ) → Accepted p → patternRefusal p ≡ 0
-accepted-back p a =
-    rw (refused-valid p (a .some) (a .short) (a .no-zero) (a .few-plus), valid-placed p (a .some), a .well-placed)
-
 -- an accepted pattern has 1 to 64 bytes
 pub accepted-length : (p : List ℕ) → patternRefusal p ≡ 0 → (1 ≤ length p) × (length p ≤ 64)
 accepted-length p e = (accepted p e .some, accepted p e .short)
@@ -101,10 +96,6 @@ accepted-length p e = (accepted p e .some, accepted p e .short)
 -- an accepted pattern's wildcards are well placed
 pub accepted-placed : (p : List ℕ) → patternRefusal p ≡ 0 → wellPlaced (levels p) ≡ true
 accepted-placed p e = accepted p e .well-placed
-
--- an accepted pattern has no zero byte
-pub accepted-no-zero : (p : List ℕ) → patternRefusal p ≡ 0 → has 0 p ≡ false
-accepted-no-zero p e = accepted p e .no-zero
 
 -- a guard before a number that is 0 or 9
 guarded : (t : Bool) (a : ℕ) → (a ≡ 0) ⊎ (a ≡ 9) → (cond t 9 a ≡ 0) ⊎ (cond t 9 a ≡ 9)
