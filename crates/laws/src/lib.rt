@@ -1,2 +1,2 @@
-// Layer 0 of the hub's message monitor: definitions and laws of booleans, lists and numbers that no crate owns. There is no code here; specs/ has three tests of lists, and
+// Definitions and laws of booleans, lists and numbers that no crate owns. There is no code here; specs/ has three tests of lists, and
 // proofs/ the laws that stand in every crate's proofs.

@@ -1,3 +1,3 @@
-// Layer 4 of the hub's message monitor: inspections in a loop that owns the state, with no text around them, as a firmware's main loop would have them. It is what `bin/measure loop`
+// Inspections in a loop that owns the state, with no text around them, as a firmware's main loop would have them. It is what `bin/measure loop`
 // measures against the Rust; nothing else uses it.
 pub mod inspections;

@@ -1,2 +1,2 @@
-// Layer 1 of the hub's message monitor: what is asked of the bytes of a lent slice, whatever they mean. Topics, lines of text and, later, packets stand on it.
+// What is asked of the bytes of a lent slice, whatever they mean. Topics, lines of text and, later, packets stand on it.
 pub mod bytes;

@@ -1,4 +1,4 @@
-// Layer 1 of the hub's message monitor: one bucket, CONNECT window, payload tracker and rule at a time, and the choice of a place in each table
+// One bucket, CONNECT window, payload tracker and rule at a time, and the choice of a place in each table
 // (document 01, "Buckets", "CONNECT windows and payload trackers", `add_rule`). Deciders take one table and hand back the place and the new record;
 // the monitor above stores it.
 pub mod buckets;

@@ -1,4 +1,4 @@
-// Layer 0 of the hub's message monitor: what it asks of a topic's bytes. Hashes, the pattern test, the two matchers and three small tests, as in
+// What the monitor asks of a topic's bytes. Hashes, the pattern test, the two matchers and three small tests, as in
 // document 01's sections "Hashes" and "Topics, level by level". Upper crates stand on the definitions of specs/ and the laws of proofs/, not on these bodies.
 pub mod hashes;
 pub mod matching;
