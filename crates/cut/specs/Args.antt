@@ -1,4 +1,5 @@
 -- A line `NAME ARG..` as its parts, for the programs of the gate. A line that has fewer parts than are asked for goes on with empty ones.
+use Prim.Native.Char.{code}
 use Prim.Native.Nat.{ℕ, suc, zero, _+_, min}
 use mathlib.Core.Bool.{Bool, true, false, cond, _&&_}
 use mathlib.Core.List.{List, []}
@@ -12,14 +13,14 @@ use Rattle.lines.specs.ReadHex.{hexRefusal, hexCount}
 use Rattle.lines.specs.ReadWord.{wordOf}
 use Rattle.cut.specs.declared.args.Bytes.{Bytes}
 
--- what stands after the first `k` fields, each ended by a blank (32)
+-- what stands after the first `k` fields, each ended by a blank
 unfoldable pub restOf : ℕ → List ℕ → List ℕ
 restOf zero q = q
-restOf (suc k) q = restOf k (drop (findByte 32 q 0 + 1) q)
+restOf (suc k) q = restOf k (drop (findByte (code " ") q 0 + 1) q)
 
 -- the field at place `k`
 unfoldable pub fieldOf : ℕ → List ℕ → List ℕ
-fieldOf k q = take (findByte 32 (restOf k q) 0) (restOf k q)
+fieldOf k q = take (findByte (code " ") (restOf k q) 0) (restOf k q)
 
 -- a number was spelled
 abbrev pub spelled : Number → Bool

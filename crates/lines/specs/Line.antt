@@ -1,7 +1,7 @@
--- Whole lines: a key with its `=`, a value, one LF (10). Document 01 ("The trace"): "`key=value` lines in fixed order, each ended by one LF".
+-- Whole lines: a key with its `=`, a value, one LF. Document 01 ("The trace"): "`key=value` lines in fixed order, each ended by one LF".
 use Prim.Native.Nat.{ℕ, min}
 use mathlib.Core.Bool.{Bool, true, false}
-use mathlib.Core.List.{List, [], _∷_, _++_}
+use mathlib.Core.List.{List, _++_}
 use Rattle.slices.specs.Bytes.{bytes}
 use Rattle.lines.specs.Decimal.{decimal}
 use Rattle.lines.specs.Hex.{hexText}
@@ -14,19 +14,19 @@ flagText false = bytes "0"
 
 -- a line whose value is a number
 unfoldable pub numberLine : List ℕ → ℕ → List ℕ
-numberLine key n = key ++ decimal n ++ (10 ∷ [])
+numberLine key n = key ++ decimal n ++ bytes "\n"
 
 -- a line whose value is bytes in hex
 unfoldable pub hexLine : List ℕ → List ℕ → List ℕ
-hexLine key s = key ++ hexText s ++ (10 ∷ [])
+hexLine key s = key ++ hexText s ++ bytes "\n"
 
 -- a line whose value is a flag
 unfoldable pub flagLine : List ℕ → Bool → List ℕ
-flagLine key on = key ++ flagText on ++ (10 ∷ [])
+flagLine key on = key ++ flagText on ++ bytes "\n"
 
 -- a line whose value is one word of a list
 unfoldable pub wordLine : List ℕ → List ℕ → ℕ → List ℕ
-wordLine key words k = key ++ wordText words k ++ (10 ∷ [])
+wordLine key words k = key ++ wordText words k ++ bytes "\n"
 
 -- a length as the code hands it back: the largest 64-bit number where it is larger
 abbrev pub capped : ℕ → ℕ

@@ -1,6 +1,7 @@
 -- Decimal text as a number. Document 01 ("The trace"): "Decimals have no spare zeros", and each number has its range. The value is a natural number, so no count of digits is too large to say
 -- that it is out of range.
 use Prim.Native.Nat.{ℕ, _+_, _-_, _*_}
+use Prim.Native.Char.{code}
 use mathlib.Core.Bool.{Bool, true, false, cond, not, _&&_}
 use mathlib.Core.List.{List, [], _∷_}
 use lib.Dec.{eqb, leb}
@@ -10,11 +11,11 @@ use Rattle.laws.specs.Lists.{every}
 
 -- `0` to `9`
 unfoldable pub isDigit : ℕ → Bool
-isDigit c = leb 48 c && leb c 57
+isDigit c = leb (code "0") c && leb c (code "9")
 
 -- the number with one digit more
 abbrev pub withDigit : ℕ → ℕ → ℕ
-withDigit v c = v * 10 + (c - 48)
+withDigit v c = v * 10 + (c - code "0")
 
 -- `c` is a digit, and the number with it is at most `high`
 unfoldable pub digitFits : ℕ → ℕ → ℕ → Bool
@@ -29,7 +30,7 @@ digitsAfter v (c ∷ cs) = digitsAfter (withDigit v c) cs
 unfoldable pub noSpareZero : List ℕ → Bool
 noSpareZero [] = false
 noSpareZero (c ∷ []) = true
-noSpareZero (c ∷ (d ∷ l)) = not (eqb c 48)
+noSpareZero (c ∷ (d ∷ l)) = not (eqb c (code "0"))
 
 -- the number that `l` spells, where it is a decimal without spare zeros and lies in low..high
 unfoldable pub decimalOf : ℕ → ℕ → List ℕ → Number

@@ -1,5 +1,6 @@
 -- Hexadecimal text as bytes. Document 01 ("The trace"): "Hex is lower case"; "24 bad hex, an odd count of digits included; 25 hex too long". So 25 is only for an even count of good digits.
 use Prim.Native.Nat.{ℕ, _+_, _-_, _*_, _/_, _%_}
+use Prim.Native.Char.{code}
 use mathlib.Core.Bool.{Bool, cond, _&&_, _||_}
 use mathlib.Core.List.{List, [], _∷_}
 use lib.ListN.{length}
@@ -9,7 +10,7 @@ use Rattle.laws.specs.Lists.{every}
 
 -- `0` to `9`, and `a` to `f`
 unfoldable pub isHex : ℕ → Bool
-isHex c = leb 48 c && leb c 57 || leb 97 c && leb c 102
+isHex c = leb (code "0") c && leb c (code "9") || leb (code "a") c && leb c (code "f")
 
 -- the number of a hex digit
 abbrev pub hexValue : ℕ → ℕ
