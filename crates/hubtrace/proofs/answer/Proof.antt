@@ -5,6 +5,13 @@ use Rattle.hubtrace.proofs.Whole.{read-part, answered-whole}
 use Rattle.hubtrace.proofs.answer.Statement.{statement}
 use Rattle.hubtrace.proofs.answer.Tie as tie
 
+-- the places where a text was read, each seen from the next one: the start, how many bytes were read
+abbrev at-start : tie.After-read → tie.Start
+at-start c = c .before .before .before .before
+
+abbrev at-read : tie.After-run-trace-arg → tie.After-read
+at-read c = c .before .before
+
 enum-known-read : tie.Need-enum-known-read
 enum-known-read c = search needs
 
@@ -16,8 +23,7 @@ unfolding answerTo
 returns c = search needs
 
 slice-aggregate-run-trace : tie.Need-slice-aggregate-run-trace
-slice-aggregate-run-trace c =
-    read-part _ _ _ (c .before .before .read .given .1) (c .before .before .before .before .before .before .pre .0)
+slice-aggregate-run-trace c = read-part _ _ _ (at-read c .read .given .1) (at-start (at-read c) .pre .0)
 
 run-trace-requires : tie.Need-run-trace-requires
 run-trace-requires c κs = search needs
@@ -27,9 +33,9 @@ same-length c = search needs
 
 returns-2 : tie.Need-returns-2
 returns-2 c =
-    rw (c .before .before .run-trace .ensures .0, c .before .before .run-trace .ensures .1)
-    (answered-whole _ _ _ _ (c .before .before .before .before .before .before .before .before .before .before .pre .1)
-    (c .before .before .before .before .before .before .read .given .1))
+    let traced = c .before .before in
+    let read = at-read (traced .before .before) in
+    rw (traced .run-trace .ensures .0, traced .run-trace .ensures .1) (answered-whole _ _ _ _ (at-start read .pre .1) (read .read .given .1))
 
 pub answer-spec : {M : Type 1} → statement M
 answer-spec = tie.close (tie.spec enum-known-read enum-told returns slice-aggregate-run-trace run-trace-requires same-length returns-2)

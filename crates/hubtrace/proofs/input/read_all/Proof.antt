@@ -69,15 +69,26 @@ same-length-3 c = search needs
 returns-3 : tie.Need-returns-3 Inv-loop μ-loop
 returns-3 c = search needs
 
--- where this turn of the loop began
-abbrev head : tie.Else2 Inv-loop μ-loop → tie.At-loop Inv-loop μ-loop
-head c = c .before .before .before .before .before .before .before .before .before .before
+-- the places of a turn that moved bytes, each seen from the next one: the loop's head, the read, what it moved
+abbrev at-loop : tie.After-read-once Inv-loop μ-loop → tie.At-loop Inv-loop μ-loop
+at-loop c = c .before .before .before .before
+
+abbrev at-read : tie.After-turn Inv-loop μ-loop → tie.After-read-once Inv-loop μ-loop
+at-read c = c .before .before .before .before
+
+abbrev at-moved : tie.Else2 Inv-loop μ-loop → tie.After-turn Inv-loop μ-loop
+at-moved c = c .before .before
 
 -- what this turn moved lies within the buffer too
-within : (c : tie.Else2 Inv-loop μ-loop) → (head c) .loop .n + c .before .before .turn .given .0 .0 ≤ length ((head c) .loop .buf)
+within : (c : tie.Else2 Inv-loop μ-loop)
+    → let moved = at-moved c in
+    let loop = at-loop (at-read moved) in
+    loop .loop .n + moved .turn .given .0 .0 ≤ length (loop .loop .buf)
 within c =
-    moved-within _ _ ((head c) .loop .n) ((head c) .loop .buf) ((head c) .loop .inv .0)
-    (c .before .before .turn .given .1) (c .before .before .before .before .before .before .read-once .ensures)
+    let moved = at-moved c in
+    let read = at-read moved in
+    let loop = at-loop read in
+    moved-within _ _ _ (loop .loop .buf) (loop .loop .inv .0) (moved .turn .given .1) (read .read-once .ensures)
 
 add-n : tie.Need-add-n Inv-loop μ-loop
 add-n c = omega (arith, within c)
@@ -97,29 +108,6 @@ returns-4 c = search needs
 pub read-all-spec : {M : Type 1} → statement M
 read-all-spec =
     tie.close
-    (tie.spec
-    Inv-loop
-    μ-loop
-    loop-holds
-    same-length
-    returns
-    sub-left
-    sub-read-once
-    part-read-once-start
-    part-read-once-end
-    read-once-requires
-    enum-told
-    same-length-2
-    returns-2
-    enum-told-2
-    sched-yield-requires
-    loop-less
-    loop-again
-    enum-known-turn
-    same-length-3
-    returns-3
-    add-n
-    loop-less-2
-    loop-again-2
-    same-length-4
-    returns-4)
+    (tie.spec Inv-loop μ-loop loop-holds same-length returns sub-left sub-read-once part-read-once-start part-read-once-end read-once-requires enum-told
+    same-length-2 returns-2 enum-told-2 sched-yield-requires loop-less loop-again enum-known-turn same-length-3 returns-3 add-n loop-less-2 loop-again-2
+    same-length-4 returns-4)

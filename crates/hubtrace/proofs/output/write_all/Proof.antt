@@ -58,15 +58,29 @@ enum-known-turn c = search needs
 returns-3 : tie.Need-returns-3 Inv-loop μ-loop
 returns-3 c = search needs
 
--- where this turn of the loop began
-abbrev head : tie.Else2 Inv-loop μ-loop → tie.At-loop Inv-loop μ-loop
-head c = c .before .before .before .before .before .before .before .before
+-- the places of a turn that moved bytes, each seen from the next one: the start, the loop's head, the write, what it moved
+abbrev at-start : tie.At-loop Inv-loop μ-loop → tie.Start Inv-loop μ-loop
+at-start c = c .before .before
+
+abbrev at-loop : tie.After-write-once Inv-loop μ-loop → tie.At-loop Inv-loop μ-loop
+at-loop c = c .before .before .before .before
+
+abbrev at-write : tie.After-turn Inv-loop μ-loop → tie.After-write-once Inv-loop μ-loop
+at-write c = c .before .before
+
+abbrev at-moved : tie.Else2 Inv-loop μ-loop → tie.After-turn Inv-loop μ-loop
+at-moved c = c .before .before
 
 -- what this turn moved lies within the buffer too
-within : (c : tie.Else2 Inv-loop μ-loop) → (head c) .loop .n + c .before .before .turn .given .0 .0 ≤ length ((head c) .before .before .args .buf .now)
+within : (c : tie.Else2 Inv-loop μ-loop)
+    → let moved = at-moved c in
+    let loop = at-loop (at-write moved) in
+    loop .loop .n + moved .turn .given .0 .0 ≤ length (at-start loop .args .buf .now)
 within c =
-    moved-within _ _ ((head c) .loop .n) ((head c) .before .before .args .buf .now) ((head c) .loop .inv)
-    (c .before .before .turn .given .1) (c .before .before .before .before .write-once .ensures)
+    let moved = at-moved c in
+    let write = at-write moved in
+    let loop = at-loop write in
+    moved-within _ _ _ (at-start loop .args .buf .now) (loop .loop .inv) (moved .turn .given .1) (write .write-once .ensures)
 
 add-n : tie.Need-add-n Inv-loop μ-loop
 add-n c = omega (arith, within c)
@@ -83,25 +97,5 @@ returns-4 c = search needs
 pub write-all-spec : {M : Type 1} → statement M
 write-all-spec =
     tie.close
-    (tie.spec
-    Inv-loop
-    μ-loop
-    loop-holds
-    returns
-    sub-left
-    sub-write-once
-    part-write-once-start
-    part-write-once-end
-    write-once-requires
-    enum-told
-    returns-2
-    enum-told-2
-    sched-yield-requires
-    loop-less
-    loop-again
-    enum-known-turn
-    returns-3
-    add-n
-    loop-less-2
-    loop-again-2
-    returns-4)
+    (tie.spec Inv-loop μ-loop loop-holds returns sub-left sub-write-once part-write-once-start part-write-once-end write-once-requires enum-told returns-2
+    enum-told-2 sched-yield-requires loop-less loop-again enum-known-turn returns-3 add-n loop-less-2 loop-again-2 returns-4)

@@ -1,20 +1,25 @@
 -- `trace::run::pass` meets its contract. The invariant: what the messages left print, from the place in the buffer on, completes what the whole trace prints
 -- (RunLaws, `Going`), and the two buffers keep their lengths; the measure: the bytes of the text that are left. Assumes nothing.
-use Prim.Native.Nat.{_-_, _≤_}
+use Prim.Native.Nat.{ℕ, _+_, _-_, _≤_}
+use mathlib.Core.List.{List}
 use mathlib.Core.Logic.{⊎-elim}
 use mathlib.Core.Path.{_≡_, sym, ap, _∙_}
 use native.Mathlib.Omega.{arith}
 use lib.ListN.{length, take}
 use lib.Seq.{length-take-le}
 use borrow.Author.Needs.{needs}
-use Rattle.monitor.specs.Inspect.{storedAt}
+use Rattle.monitor.specs.Inspect.{storedAt, applied}
+use Rattle.monitor.specs.State.{withCounters}
 use Rattle.tables.specs.Rules.{ruleMatches}
 use Rattle.monitor.proofs.plan.PlanLaws.{composed}
 use Rattle.monitor.proofs.inspection.ApplyLaws.{stored-yes, stored-no, withClients, withBuckets, withTrackers, stored-all}
 use Rattle.trace.specs.Groups.{topicIn, payloadIn}
-use Rattle.trace.specs.Trace.{planned}
+use Rattle.trace.specs.Record.{closingText}
+use Rattle.trace.specs.Trace.{endedBy, planned, traceText}
+use Rattle.trace.specs.declared.groups.MessageLines.{MessageLines}
 use Rattle.trace.proofs.run.BufferLaws.{topic-part, payload-part}
-use Rattle.trace.proofs.run.RunLaws.{Going, going-start, going-small, turn-room, going-turn, close-room, close-end, close-bytes, left-end, left-stop, plan-sent, sentAt, read-further, unloaded-text, unloaded-end}
+use Rattle.trace.proofs.run.RunLaws.{Going, going-start, going-small, turn-room, going-turn, close-room, close-end, close-bytes}
+use Rattle.trace.proofs.run.RunLaws.{left, left-end, left-stop, plan-sent, sentAt, read-further, unloaded-text, unloaded-end}
 use Rattle.trace.proofs.run.pass.Statement.{statement}
 use Rattle.trace.proofs.run.pass.Tie as tie
 
@@ -25,25 +30,72 @@ Inv-loop text out₀ write m₀ at₀ line₀ topic₀ payload₀ n₀ p₀ out 
 abbrev μ-loop : tie.MeasureT-loop
 μ-loop text out₀ write m₀ at₀ line₀ topic₀ payload₀ n₀ p₀ out m at line topic payload n p = length text - at
 
--- the places behind a turn's end: its plan, its gate, the message that was read, the loop's head; and the function's start
-abbrev at-plan : tie.Joined5 Inv-loop μ-loop → tie.After-plan-from Inv-loop μ-loop
-at-plan c = c .before .before .before .before .before .before .before
+-- The places of a pass: `at-` leads back to one from the next that has a name, `-of` from further on, or from where the pass ends early.
+-- Before the loop: the start, the rules are loaded, the monitor is made
+abbrev at-start : tie.After-load Inv-loop μ-loop → tie.Start Inv-loop μ-loop
+at-start c = c .before .before .before
 
-abbrev at-gate : tie.After-plan-from Inv-loop μ-loop → tie.After-gate-for Inv-loop μ-loop
-at-gate c = c .before .before .before .before .before .before .before .before .before
+abbrev at-load : tie.After-started Inv-loop μ-loop → tie.After-load Inv-loop μ-loop
+at-load c = c .before .before
+
+abbrev at-started : tie.At-loop Inv-loop μ-loop → tie.After-started Inv-loop μ-loop
+at-started c = c .before .before .before .before .before
+
+-- in a turn: its test, its head, the message is read, it is not refused, its gate is known, its plan is made
+abbrev at-test : tie.After-read-message Inv-loop μ-loop → tie.In-loop Inv-loop μ-loop
+at-test c = c .before .before .before
+
+abbrev at-loop : tie.After-read-message Inv-loop μ-loop → tie.At-loop Inv-loop μ-loop
+at-loop c = at-test c .before
+
+abbrev at-read : tie.Else2 Inv-loop μ-loop → tie.After-read-message Inv-loop μ-loop
+at-read c = c .before .before
 
 abbrev at-message : tie.After-gate-for Inv-loop μ-loop → tie.Else2 Inv-loop μ-loop
 at-message c = c .before .before .before .before .before .before
 
-abbrev at-loop : tie.Else2 Inv-loop μ-loop → tie.At-loop Inv-loop μ-loop
-at-loop c = c .before .before .before .before .before .before
+abbrev at-gate : tie.After-fed-for Inv-loop μ-loop → tie.After-gate-for Inv-loop μ-loop
+at-gate c = c .before .before .before .before .before .before .before
 
-abbrev at-start : tie.At-loop Inv-loop μ-loop → tie.Start Inv-loop μ-loop
-at-start c = c .before .before .before .before .before .before .before .before .before .before
+-- after its plan: the client is stored, the bucket is, all is
+abbrev at-plan : tie.Joined3 Inv-loop μ-loop → tie.After-plan-from Inv-loop μ-loop
+at-plan c = c .before .before .before
 
--- the message, seen from the turn's end
-abbrev at-turn : tie.After-slice-known4 Inv-loop μ-loop → tie.Else2 Inv-loop μ-loop
-at-turn c = at-message (at-gate (at-plan (c .before .before .before .before .before .before)))
+abbrev at-client : tie.Joined4 Inv-loop μ-loop → tie.Joined3 Inv-loop μ-loop
+at-client c = c .before .before
+
+abbrev at-bucket : tie.Joined5 Inv-loop μ-loop → tie.Joined4 Inv-loop μ-loop
+at-bucket c = c .before .before
+
+abbrev at-stored : tie.After-slice-known4 Inv-loop μ-loop → tie.Joined5 Inv-loop μ-loop
+at-stored c = c .before .before .before .before .before .before
+
+-- where the rules are refused, and where a message is
+abbrev started-of : tie.Then1 Inv-loop μ-loop → tie.After-started Inv-loop μ-loop
+started-of c = c .before .before
+
+abbrev read-of : tie.Then2 Inv-loop μ-loop → tie.After-read-message Inv-loop μ-loop
+read-of c = c .before .before
+
+-- from the loop's head, from the plan, and from where all is stored
+abbrev start-of : tie.At-loop Inv-loop μ-loop → tie.Start Inv-loop μ-loop
+start-of c = at-start (at-load (at-started c))
+
+abbrev message-of : tie.After-plan-from Inv-loop μ-loop → tie.Else2 Inv-loop μ-loop
+message-of c = at-message (at-gate (c .before .before))
+
+abbrev loop-of : tie.After-plan-from Inv-loop μ-loop → tie.At-loop Inv-loop μ-loop
+loop-of c = at-loop (at-read (message-of c))
+
+abbrev plan-of : tie.Joined5 Inv-loop μ-loop → tie.After-plan-from Inv-loop μ-loop
+plan-of c = at-plan (at-client (at-bucket c))
+
+-- the text, and what was read of it
+abbrev text : tie.At-loop Inv-loop μ-loop → List ℕ
+text c = start-of c .args .text .now
+
+abbrev group : tie.After-read-message Inv-loop μ-loop → MessageLines
+group c = c .read-message .result
 
 load-requires : tie.Need-load-requires Inv-loop μ-loop
 load-requires c κs = search needs
@@ -51,12 +103,19 @@ load-requires c κs = search needs
 started-requires : tie.Need-started-requires Inv-loop μ-loop
 started-requires c κs = search needs
 
+-- where the rules are refused a trace has only its closing lines
+unloaded : (c : tie.Then1 Inv-loop μ-loop)
+    → let started = started-of c in
+    let loaded = at-load started in
+    traceText (at-start loaded .args .text .now)
+    ≡ closingText (loaded .load .result .number) (loaded .load .result .line) (started .started .result .«total_inspected») (started .started .result .«total_alerts»)
+unloaded c =
+    let started = started-of c in
+    unloaded-text _ (at-load started .load .ensures) (started .started .ensures) (c .if1 .taken)
+
 pass-closing-requires : tie.Need-pass-closing-requires Inv-loop μ-loop
 pass-closing-requires c κs =
-    let begun = c .before .before .before in
-    let loaded = begun .before .before in
-    let start = loaded .before .before .before in
-    (omega arith, λ w. omega (arith, start .pre w, ap length (unloaded-text _ (loaded .load .ensures) (begun .started .ensures) (c .before .if1 .taken))))
+    (omega arith, λ w. omega (arith, at-start (at-load (started-of (c .before))) .pre w, ap length (unloaded (c .before))))
 
 same-length : tie.Need-same-length Inv-loop μ-loop
 same-length c = c .before .before .pass-closing .kept .0
@@ -64,11 +123,10 @@ same-length c = c .before .before .pass-closing .kept .0
 returns : tie.Need-returns Inv-loop μ-loop
 returns c =
     let closed = c .before .before in
-    let tested = closed .before .before in
-    let begun = tested .before .before in
-    let loaded = begun .before .before in (
-      unloaded-end _ (loaded .load .ensures) (begun .started .ensures) (tested .if1 .taken) (closed .pass-closing .ensures .0),
-      rw (unloaded-text _ (loaded .load .ensures) (begun .started .ensures) (tested .if1 .taken)) (closed .pass-closing .ensures .1),
+    let refused = closed .before .before in
+    let started = started-of refused in (
+      unloaded-end _ (at-load started .load .ensures) (started .started .ensures) (refused .if1 .taken) (closed .pass-closing .ensures .0),
+      rw (unloaded refused) (closed .pass-closing .ensures .1),
     )
 
 buffer-128-requires : tie.Need-buffer-128-requires Inv-loop μ-loop
@@ -79,64 +137,60 @@ buffer-256-requires c κs = search needs
 
 loop-holds : tie.Need-loop-holds Inv-loop μ-loop
 loop-holds c =
-    let tested = c .before .before in
-    let begun = tested .before .before in
-    let loaded = begun .before .before in
-    (going-start _ (loaded .load .ensures) (begun .started .ensures) _ _ (tested .if1 .left), c .before .buffer-128 .ensures, c .buffer-256 .ensures)
+    let good = c .before .before in
+    let started = good .before .before in
+    (going-start _ (at-load started .load .ensures) (started .started .ensures) _ _ (good .if1 .left), c .before .buffer-128 .ensures, c .buffer-256 .ensures)
 
 read-message-requires : tie.Need-read-message-requires Inv-loop μ-loop
 read-message-requires c κs = search needs
 
 -- lines and messages are counted far below the largest number
-numbers-small : (c : tie.After-read-message Inv-loop μ-loop)
-    → let loop = c .before .before .before .before in
-    (loop .loop .line ≤ 65666) × (loop .loop .n ≤ 65536) × (c .read-message .result .line ≤ 6)
+numbers-small : (c : tie.After-read-message Inv-loop μ-loop) → (at-loop c .loop .line ≤ 65666) × (at-loop c .loop .n ≤ 65536) × (group c .line ≤ 6)
 numbers-small c =
-    let test = c .before .before .before in
-    let going = test .before .loop .inv .0 in (
+    let test = at-test c in
+    let going = at-loop c .loop .inv .0 in (
       omega (arith, going .lines, going .short, test .loop-test .taken),
       omega (arith, going .ordinal, going .short, test .loop-test .taken),
       c .read-message .ensures .1 .0 .line,
     )
 
 add-pass-closing : tie.Need-add-pass-closing Inv-loop μ-loop
-add-pass-closing c = omega (arith, numbers-small (c .before .before .before))
+add-pass-closing c = omega (arith, numbers-small (read-of (c .before)))
 
 cast-pass-closing : tie.Need-cast-pass-closing Inv-loop μ-loop
-cast-pass-closing c = omega (arith, numbers-small (c .before .before .before .before))
+cast-pass-closing c = omega (arith, numbers-small (read-of (c .before .before)))
 
 add-pass-closing-2 : tie.Need-add-pass-closing-2 Inv-loop μ-loop
-add-pass-closing-2 c = omega (arith, numbers-small (c .before .before .before .before))
+add-pass-closing-2 c = omega (arith, numbers-small (read-of (c .before .before)))
+
+-- after a message that is refused none is left
+refused : (c : tie.Then2 Inv-loop μ-loop)
+    → let read = read-of c in
+    let loop = at-loop read in
+    left (text loop) (loop .loop .at) (loop .loop .line) ≡ endedBy (group read .number) (loop .loop .line + 1 + group read .line)
+refused c =
+    let read = read-of c in
+    left-stop _ (at-loop read .loop .line) (at-test read .loop-test .taken) (read .read-message .ensures .0) (c .if2 .taken)
 
 pass-closing-requires-2 : tie.Need-pass-closing-requires-2 Inv-loop μ-loop
 pass-closing-requires-2 c κs =
-    let refused = c .before .before in
-    let read = refused .before .before in
-    let test = read .before .before .before in
-    let loop = test .before in
-    let start = at-start loop in (
-      going-small (loop .loop .inv .0),
-      close-room (loop .loop .inv .0) (start .pre) (left-stop _ (loop .loop .line) (test .loop-test .taken) (read .read-message .ensures .0) (refused .if2 .taken)),
-    )
+    let stop = c .before .before in
+    let loop = at-loop (read-of stop) in
+    (going-small (loop .loop .inv .0), close-room (loop .loop .inv .0) (start-of loop .pre) (refused stop))
 
 same-length-2 : tie.Need-same-length-2 Inv-loop μ-loop
 same-length-2 c =
     let closed = c .before .before in
-    let loop = closed .before .before .before .before .before .before .before .before .before in
+    let loop = at-loop (read-of (closed .before .before .before)) in
     closed .pass-closing2 .kept .0 ∙ loop .loop .inv .0 .long
 
 returns-2 : tie.Need-returns-2 Inv-loop μ-loop
 returns-2 c =
     let closed = c .before .before in
-    let refused = closed .before .before .before in
-    let read = refused .before .before in
-    let test = read .before .before .before in
-    let loop = test .before in
-    let start = at-start loop in (
-      close-end (loop .loop .inv .0) (start .pre) (left-stop _ (loop .loop .line) (test .loop-test .taken) (read .read-message .ensures .0) (refused .if2 .taken))
-          (closed .pass-closing2 .ensures .0),
-      close-bytes (loop .loop .inv .0) (start .pre) (left-stop _ (loop .loop .line) (test .loop-test .taken) (read .read-message .ensures .0) (refused .if2 .taken))
-          (closed .pass-closing2 .ensures .1),
+    let stop = closed .before .before .before in
+    let loop = at-loop (read-of stop) in (
+      close-end (loop .loop .inv .0) (start-of loop .pre) (refused stop) (closed .pass-closing2 .ensures .0),
+      close-bytes (loop .loop .inv .0) (start-of loop .pre) (refused stop) (closed .pass-closing2 .ensures .1),
     )
 
 cast-topic-len : tie.Need-cast-topic-len Inv-loop μ-loop
@@ -147,27 +201,21 @@ cast-payload-len c = search needs
 
 -- the message's topic and payload are the first bytes of their buffers
 topic-has : (c : tie.Else2 Inv-loop μ-loop)
-    → let read = c .before .before in
-    let loop = read .before .before .before .before in
-    let start = at-start loop in
-    (take (read .read-message .result .msg .«topic_len») (read .read-message .last .1 .1 .0) ≡ topicIn (start .args .text .now) (read .read-message .result))
-    × (read .read-message .result .msg .«topic_len» ≤ length (read .read-message .last .1 .1 .0)) × (length (read .read-message .last .1 .1 .0) ≡ 128)
+    → let read = at-read c in
+    let buffer = read .read-message .last .1 .1 .0 in
+    (take (group read .msg .«topic_len») buffer ≡ topicIn (text (at-loop read)) (group read)) × (group read .msg .«topic_len» ≤ length buffer) × (length buffer ≡ 128)
 topic-has c =
-    let read = c .before .before in
-    let loop = read .before .before .before .before in
-    topic-part _ _ _ (read .read-message .ensures .0) (c .if2 .left) (loop .loop .inv .1) (read .read-message .ensures .1 .1 .0)
+    let read = at-read c in
+    topic-part _ _ _ (read .read-message .ensures .0) (c .if2 .left) (at-loop read .loop .inv .1) (read .read-message .ensures .1 .1 .0)
 
 payload-has : (c : tie.Else2 Inv-loop μ-loop)
-    → let read = c .before .before in
-    let loop = read .before .before .before .before in
-    let start = at-start loop in
-    (take (read .read-message .result .msg .«payload_inspectable_len») (read .read-message .last .1 .1 .1 .0) ≡ payloadIn (start .args .text .now)
-    (read .read-message .result))
-    × (read .read-message .result .msg .«payload_inspectable_len» ≤ length (read .read-message .last .1 .1 .1 .0)) × (length (read .read-message .last .1 .1 .1 .0) ≡ 256)
+    → let read = at-read c in
+    let buffer = read .read-message .last .1 .1 .1 .0 in
+    (take (group read .msg .«payload_inspectable_len») buffer ≡ payloadIn (text (at-loop read)) (group read))
+    × (group read .msg .«payload_inspectable_len» ≤ length buffer) × (length buffer ≡ 256)
 payload-has c =
-    let read = c .before .before in
-    let loop = read .before .before .before .before in
-    payload-part _ _ _ (read .read-message .ensures .0) (c .if2 .left) (loop .loop .inv .2) (read .read-message .ensures .1 .1 .1)
+    let read = at-read c in
+    payload-part _ _ _ (read .read-message .ensures .0) (c .if2 .left) (at-loop read .loop .inv .2) (read .read-message .ensures .1 .1 .1)
 
 array-share-prefix-topic : tie.Need-array-share-prefix-topic Inv-loop μ-loop
 array-share-prefix-topic c = topic-has (c .before .before .before) .1
@@ -191,10 +239,10 @@ fed-for-requires : tie.Need-fed-for-requires Inv-loop μ-loop
 fed-for-requires c κs = search needs
 
 array-share-prefix-payload : tie.Need-array-share-prefix-payload Inv-loop μ-loop
-array-share-prefix-payload c = payload-has (at-message (c .before .before .before .before .before .before .before)) .1
+array-share-prefix-payload c = payload-has (at-message (at-gate c)) .1
 
 slice-aggregate-plan-from : tie.Need-slice-aggregate-plan-from Inv-loop μ-loop
-slice-aggregate-plan-from c = sym (length-take-le _ _ (payload-has (at-message (c .before .before .before .before .before .before .before .before)) .1))
+slice-aggregate-plan-from c = sym (length-take-le _ _ (payload-has (at-message (at-gate (c .before))) .1))
 
 plan-from-requires : tie.Need-plan-from-requires Inv-loop μ-loop
 plan-from-requires c κs = search needs
@@ -221,173 +269,124 @@ element-set-from-tracker : tie.Need-element-set-from-tracker Inv-loop μ-loop
 element-set-from-tracker c = search needs
 
 -- its plan is that of the message sent
-plan-is : (c : tie.After-plan-from Inv-loop μ-loop)
-    → let gate = at-gate c in
-    let message = at-message gate in
-    let loop = at-loop message in
-    let start = at-start loop in
-    c .plan-from .result ≡ planned (loop .loop .m) (sentAt (start .args .text .now) (loop .loop .at))
+plan-is : (c : tie.After-plan-from Inv-loop μ-loop) → c .plan-from .result ≡ planned (loop-of c .loop .m) (sentAt (text (loop-of c)) (loop-of c .loop .at))
 plan-is c =
     let fed = c .before .before in
     let spent = fed .before .before in
     let id = spent .before .before in
     let seen = id .before in
-    let gate = seen .before .before in
-    let message = at-message gate in
-    let read = message .before .before in
-    plan-sent _ _ _ (read .read-message .ensures .0) (topic-has message .0) (payload-has message .0)
-    (composed ruleMatches _ _ _ _ (gate .gate-for .ensures) (seen .seen-for .ensures) (id .id-for .ensures) (spent .spent-for .ensures) (fed .fed-for .ensures)
-    (c .plan-from .ensures))
+    let message = message-of c in
+    plan-sent _ _ _ (at-read message .read-message .ensures .0) (topic-has message .0) (payload-has message .0)
+    (composed ruleMatches _ _ _ _ (at-gate fed .gate-for .ensures) (seen .seen-for .ensures) (id .id-for .ensures) (spent .spent-for .ensures)
+    (fed .fed-for .ensures) (c .plan-from .ensures))
 
 -- the state after each store, where the ways from its test meet
 client-is : (c : tie.Joined3 Inv-loop μ-loop)
-    → let plan = c .before .before .before in
-    let loop = at-loop (at-message (at-gate plan)) in
-    c .if3 .m ≡ withClients (loop .loop .m) (storedAt 16 (loop .loop .m .«connect_windows») (plan .plan-from .result .seen .at) (plan .plan-from .result .seen .entry))
+    → let m = loop-of (at-plan c) .loop .m in
+    let d = at-plan c .plan-from .result .seen in
+    c .if3 .m ≡ withClients m (storedAt 16 (m .«connect_windows») (d .at) (d .entry))
 client-is c =
-    let plan = c .before .before .before in
-    let loop = at-loop (at-message (at-gate plan)) in
-    let m = loop .loop .m in
-    let d = plan .plan-from .result .seen in
+    let m = loop-of (at-plan c) .loop .m in
+    let d = at-plan c .plan-from .result .seen in
     ⊎-elim (λ w. stored-yes (withClients m) 16 (m .«connect_windows») (d .at) (d .entry) (w .0 .taken) (w .2))
     (λ w. stored-no (withClients m) 16 (m .«connect_windows») (d .at) (d .entry) (w .0 .left) (w .1)) (c .if3 .came)
 
 bucket-is : (c : tie.Joined4 Inv-loop μ-loop)
-    → let client = c .before .before in
-    let plan = client .before .before .before in
-    c .if4 .m ≡ withBuckets (client .if3 .m) (storedAt 32 (client .if3 .m .«rate_buckets») (plan .plan-from .result .spent .at) (plan .plan-from .result .spent .bucket))
+    → let m = at-client c .if3 .m in
+    let d = at-plan (at-client c) .plan-from .result .spent in
+    c .if4 .m ≡ withBuckets m (storedAt 32 (m .«rate_buckets») (d .at) (d .bucket))
 bucket-is c =
-    let client = c .before .before in
-    let plan = client .before .before .before in
-    let m = client .if3 .m in
-    let d = plan .plan-from .result .spent in
+    let m = at-client c .if3 .m in
+    let d = at-plan (at-client c) .plan-from .result .spent in
     ⊎-elim (λ w. stored-yes (withBuckets m) 32 (m .«rate_buckets») (d .at) (d .bucket) (w .0 .taken) (w .2))
     (λ w. stored-no (withBuckets m) 32 (m .«rate_buckets») (d .at) (d .bucket) (w .0 .left) (w .1)) (c .if4 .came)
 
 tracker-is : (c : tie.Joined5 Inv-loop μ-loop)
-    → let bucket = c .before .before in
-    let plan = bucket .before .before .before .before .before in
-    c .if5 .m ≡ withTrackers (bucket .if4 .m) (storedAt 16 (bucket .if4 .m .«ewma_trackers») (plan .plan-from .result .fed .at) (plan .plan-from .result .fed .tracker))
+    → let m = at-bucket c .if4 .m in
+    let d = plan-of c .plan-from .result .fed in
+    c .if5 .m ≡ withTrackers m (storedAt 16 (m .«ewma_trackers») (d .at) (d .tracker))
 tracker-is c =
-    let bucket = c .before .before in
-    let plan = bucket .before .before .before .before .before in
-    let m = bucket .if4 .m in
-    let d = plan .plan-from .result .fed in
+    let m = at-bucket c .if4 .m in
+    let d = plan-of c .plan-from .result .fed in
     ⊎-elim (λ w. stored-yes (withTrackers m) 16 (m .«ewma_trackers») (d .at) (d .tracker) (w .0 .taken) (w .2))
     (λ w. stored-no (withTrackers m) 16 (m .«ewma_trackers») (d .at) (d .tracker) (w .0 .left) (w .1)) (c .if5 .came)
 
+-- after the stores and with its counters it is the state that the plan leaves
+state-is : (c : tie.Joined5 Inv-loop μ-loop)
+    → let plan = plan-of c .plan-from .result in
+    let counted = at-client (at-bucket c) .before .before .count-on .result in
+    withCounters (c .if5 .m) (plan .raised .«next_id») counted (plan .raised .total) ≡ applied (loop-of (plan-of c) .loop .m) plan
+state-is c =
+    let bucket = at-bucket c in
+    let client = at-client bucket in
+    stored-all _ _ (client-is client) (bucket-is bucket) (tracker-is c) (client .before .before .count-on .ensures)
+
 pass-record-requires : tie.Need-pass-record-requires Inv-loop μ-loop
 pass-record-requires c κs =
-    let stored = c .before .before .before in
-    let plan = at-plan stored in
-    let message = at-message (at-gate plan) in
-    let read = message .before .before in
-    let test = read .before .before .before in
-    let loop = test .before in
-    let start = at-start loop in (
+    let plan = plan-of (c .before .before .before) in
+    let message = message-of plan in
+    let read = at-read message in
+    let loop = at-loop read in (
       going-small (loop .loop .inv .0),
-      turn-room (loop .loop .inv .0) (start .pre) (test .loop-test .taken) (read .read-message .ensures .0) (message .if2 .left) (plan-is plan),
+      turn-room (loop .loop .inv .0) (start-of loop .pre) (at-test read .loop-test .taken) (read .read-message .ensures .0) (message .if2 .left) (plan-is plan),
     )
 
 add-line : tie.Need-add-line Inv-loop μ-loop
-add-line c = omega (arith, numbers-small (at-turn c .before .before))
+add-line c = omega (arith, numbers-small (at-read (message-of (plan-of (at-stored c)))))
 
 add-n : tie.Need-add-n Inv-loop μ-loop
-add-n c = omega (arith, numbers-small (at-turn c .before .before))
+add-n c = omega (arith, numbers-small (at-read (message-of (plan-of (at-stored c)))))
 
 loop-less : tie.Need-loop-less Inv-loop μ-loop
 loop-less c =
-    let message = at-turn c in
-    let read = message .before .before in
-    let test = read .before .before .before in
-    let loop = test .before in
-    let start = at-start loop in
-    omega (arith, test .loop-test .taken, read-further (start .args .text .now) (loop .loop .at) (read .read-message .ensures .0) (message .if2 .left))
+    let message = message-of (plan-of (at-stored c)) in
+    let read = at-read message in
+    omega (arith, at-test read .loop-test .taken, read-further (text (at-loop read)) (at-loop read .loop .at) (read .read-message .ensures .0) (message .if2 .left))
 
 loop-again : tie.Need-loop-again Inv-loop μ-loop
 loop-again c =
     let printed = c .before .before in
-    let stored = printed .before .before .before .before in
-    let bucket = stored .before .before in
-    let client = bucket .before .before in
-    let counted = client .before .before in
-    let plan = counted .before in
-    let message = at-message (at-gate plan) in
-    let read = message .before .before in
-    let test = read .before .before .before in
-    let loop = test .before in
-    let start = at-start loop in (
-      going-turn (loop .loop .inv .0) (start .pre) (test .loop-test .taken) (read .read-message .ensures .0) (message .if2 .left) (plan-is plan)
-          (stored-all _ _ (client-is client) (bucket-is bucket) (tracker-is stored) (counted .count-on .ensures)) (printed .pass-record .ensures .0)
-          (printed .pass-record .ensures .1),
+    let stored = at-stored c in
+    let plan = plan-of stored in
+    let message = message-of plan in
+    let read = at-read message in
+    let loop = at-loop read in (
+      going-turn (loop .loop .inv .0) (start-of loop .pre) (at-test read .loop-test .taken) (read .read-message .ensures .0) (message .if2 .left) (plan-is plan)
+          (state-is stored) (printed .pass-record .ensures .0) (printed .pass-record .ensures .1),
       topic-has message .2,
       payload-has message .2,
     )
 
+-- at the text's end none is left
+ended : (c : tie.After-loop Inv-loop μ-loop) → left (text (c .before)) (c .before .loop .at) (c .before .loop .line) ≡ endedBy 0 (c .before .loop .line)
+ended c = left-end (text (c .before)) (c .before .loop .line) (c .loop-test .left)
+
 pass-closing-requires-3 : tie.Need-pass-closing-requires-3 Inv-loop μ-loop
 pass-closing-requires-3 c κs =
     let loop = c .before .before in
-    let start = at-start loop in
-    (going-small (loop .loop .inv .0), close-room (loop .loop .inv .0) (start .pre) (left-end (start .args .text .now) (loop .loop .line) (c .before .loop-test .left)))
+    (going-small (loop .loop .inv .0), close-room (loop .loop .inv .0) (start-of loop .pre) (ended (c .before)))
 
 same-length-3 : tie.Need-same-length-3 Inv-loop μ-loop
-same-length-3 c = c .before .before .pass-closing3 .kept .0 ∙ c .before .before .before .before .before .loop .inv .0 .long
+same-length-3 c =
+    let closed = c .before .before in
+    let loop = closed .before .before .before in
+    closed .pass-closing3 .kept .0 ∙ loop .loop .inv .0 .long
 
 returns-3 : tie.Need-returns-3 Inv-loop μ-loop
 returns-3 c =
     let closed = c .before .before in
-    let test = closed .before .before in
-    let loop = test .before in
-    let start = at-start loop in (
-      close-end (loop .loop .inv .0) (start .pre) (left-end (start .args .text .now) (loop .loop .line) (test .loop-test .left)) (closed .pass-closing3 .ensures .0),
-      close-bytes (loop .loop .inv .0) (start .pre) (left-end (start .args .text .now) (loop .loop .line) (test .loop-test .left)) (closed .pass-closing3 .ensures .1),
+    let stop = closed .before .before in
+    let loop = stop .before in (
+      close-end (loop .loop .inv .0) (start-of loop .pre) (ended stop) (closed .pass-closing3 .ensures .0),
+      close-bytes (loop .loop .inv .0) (start-of loop .pre) (ended stop) (closed .pass-closing3 .ensures .1),
     )
 
 pub pass-spec : {M : Type 1} → statement M
 pass-spec =
     tie.close
-    (tie.spec
-    Inv-loop
-    μ-loop
-    load-requires
-    started-requires
-    pass-closing-requires
-    same-length
-    returns
-    buffer-128-requires
-    buffer-256-requires
-    loop-holds
-    read-message-requires
-    add-pass-closing
-    cast-pass-closing
-    add-pass-closing-2
-    pass-closing-requires-2
-    same-length-2
-    returns-2
-    cast-topic-len
-    cast-payload-len
-    array-share-prefix-topic
-    slice-aggregate-name
-    gate-for-requires
-    seen-for-requires
-    id-for-requires
-    spent-for-requires
-    fed-for-requires
-    array-share-prefix-payload
-    slice-aggregate-plan-from
-    plan-from-requires
-    count-on-requires
-    mul-entry
-    element-set-from-entry
-    mul-bucket
-    element-set-from-bucket
-    mul-tracker
-    element-set-from-tracker
-    pass-record-requires
-    add-line
-    add-n
-    loop-less
-    loop-again
-    pass-closing-requires-3
-    same-length-3
+    (tie.spec Inv-loop μ-loop load-requires started-requires pass-closing-requires same-length returns buffer-128-requires buffer-256-requires loop-holds
+    read-message-requires add-pass-closing cast-pass-closing add-pass-closing-2 pass-closing-requires-2 same-length-2 returns-2 cast-topic-len cast-payload-len
+    array-share-prefix-topic slice-aggregate-name gate-for-requires seen-for-requires id-for-requires spent-for-requires fed-for-requires
+    array-share-prefix-payload slice-aggregate-plan-from plan-from-requires count-on-requires mul-entry element-set-from-entry mul-bucket
+    element-set-from-bucket mul-tracker element-set-from-tracker pass-record-requires add-line add-n loop-less loop-again pass-closing-requires-3 same-length-3
     returns-3)
