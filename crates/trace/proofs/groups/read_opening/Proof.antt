@@ -1,11 +1,34 @@
 -- `trace::groups::read_opening` meets its contract: each line, read or refused, as the definition has them. Assumes nothing.
-use mathlib.Core.Path.{_≡_}
+use mathlib.Core.Path.{_≡_, refl, sym, _∙_}
+use mathlib.Core.List.{List}
+use Prim.Native.Nat.{ℕ}
 use borrow.Author.Tests.{eq-eqb, ne-eqb}
-use Rattle.trace.specs.Groups.{openingOf, opening1, opening2}
+use Rattle.trace.specs.Groups.{OpeningIn, openingOf, opening1, opening2}
+use Rattle.trace.specs.declared.groups.OpeningLines.{OpeningLines}
 use Rattle.trace.proofs.groups.GroupLaws.{opening-within}
 use borrow.Author.Needs.{needs}
 use Rattle.trace.proofs.groups.read_opening.Statement.{statement}
 use Rattle.trace.proofs.groups.read_opening.Tie as tie
+
+-- the text, from the place just after the first line's call; and that place, from just after the second's
+abbrev text : tie.After-word-field → List ℕ
+text c = c .before .before .before .before .args .text .now
+
+abbrev default : tie.After-number-field → tie.After-word-field
+default c = c .before .before .before .before
+
+-- what the definition has become at a line: those before it were read, so that line alone is left
+left-default : (c : tie.After-word-field) → openingOf (text c) ≡ opening1 (text c) (c .word-field .result)
+unfolding openingOf
+left-default c = rw (← c .word-field .ensures .0)
+
+left-rules : (c : tie.After-number-field) → openingOf (text (default c)) ≡ opening2 (default c .word-field .result) (c .number-field .result)
+unfolding opening1
+left-rules c = rw (eq-eqb _ _ (c .before .before .if1 .left), ← c .number-field .ensures .0) at (left-default (default c))
+
+-- A return's promises. The line at which it stands was refused, or was the last: either ends the definition.
+ends : {s : List ℕ} {m o : OpeningLines} → openingOf s ≡ m → o ≡ m → (o ≡ openingOf s) × OpeningIn s o
+ends {s} w e = let g = e ∙ sym w in (g, opening-within s g)
 
 slice-aggregate-word-field : tie.Need-slice-aggregate-word-field
 slice-aggregate-word-field c = search needs
@@ -20,13 +43,8 @@ opening-stopped-requires : tie.Need-opening-stopped-requires
 opening-stopped-requires c κs = search needs
 
 returns : tie.Need-returns
-unfolding openingOf opening1
-returns c =
-    let default = c .before .before .before in
-    let start = default .before .before .before .before in
-    let e : c .opening-stopped .result ≡ openingOf (start .args .text .now) =
-    rw (← default .word-field .ensures .0, ne-eqb _ _ (c .before .if1 .taken)) (c .opening-stopped .ensures) in
-    (e, opening-within _ e)
+unfolding opening1
+returns c = ends (rw (ne-eqb _ _ (c .before .if1 .taken)) at (left-default (c .before .before .before))) (c .opening-stopped .ensures)
 
 slice-aggregate-number-field : tie.Need-slice-aggregate-number-field
 slice-aggregate-number-field c = search needs
@@ -38,38 +56,15 @@ opening-stopped-requires-2 : tie.Need-opening-stopped-requires-2
 opening-stopped-requires-2 c κs = search needs
 
 returns-2 : tie.Need-returns-2
-unfolding openingOf opening1 opening2
-returns-2 c =
-    let rules = c .before .before .before in
-    let after-default = rules .before .before in
-    let default = after-default .before .before in
-    let start = default .before .before .before .before in
-    let e : c .opening-stopped2 .result ≡ openingOf (start .args .text .now) =
-    rw (← default .word-field .ensures .0, eq-eqb _ _ (after-default .if1 .left), ← rules .number-field .ensures .0, ne-eqb _ _ (c .before .if2 .taken))
-    (c .opening-stopped2 .ensures) in
-    (e, opening-within _ e)
+unfolding opening2
+returns-2 c = ends (rw (ne-eqb _ _ (c .before .if2 .taken)) at (left-rules (c .before .before .before))) (c .opening-stopped2 .ensures)
 
 action-at-requires : tie.Need-action-at-requires
 action-at-requires c κs = search needs
 
 returns-3 : tie.Need-returns-3
-unfolding openingOf opening1 opening2
-returns-3 c =
-    let rules = c .before .before .before in
-    let after-default = rules .before .before in
-    let default = after-default .before .before in
-    let start = default .before .before .before .before in
-    let e :
-    record { number = 0; line = 1; next = rules .number-field .result .next; «default_action» = c .action-at .result; rules = rules .number-field .result .value }
-    ≡ openingOf (start .args .text .now) =
-    rw (
-      ← default .word-field .ensures .0,
-      eq-eqb _ _ (after-default .if1 .left),
-      ← rules .number-field .ensures .0,
-      eq-eqb _ _ (c .before .if2 .left),
-      c .action-at .ensures,
-    ) in
-    (e, opening-within _ e)
+unfolding opening2
+returns-3 c = ends (rw (eq-eqb _ _ (c .before .if2 .left), ← c .action-at .ensures) at (left-rules (c .before .before .before))) refl
 
 pub read-opening-spec : {M : Type 1} → statement M
 read-opening-spec =

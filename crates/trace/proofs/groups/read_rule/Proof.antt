@@ -1,16 +1,78 @@
--- `trace::groups::read_rule` meets its contract: each line, read or refused, as the definition has them; the buffer is written by the first line alone. Assumes nothing.
-use mathlib.Core.Path.{_≡_}
+-- `trace::groups::read_rule` meets its contract: each line, read or refused, as the definition has them; the buffer is written by the first line alone. Assumes
+-- nothing.
+use Prim.Native.Nat.{ℕ}
+use mathlib.Core.Path.{_≡_, refl, sym, _∙_}
+use mathlib.Core.List.{List}
 use native.Mathlib.Omega.{arith}
 use lib.ListN.{length}
 use borrow.Author.Tests.{eq-eqb, ne-eqb}
-use Rattle.slices.specs.Bytes.{bytes}
-use Rattle.lines.specs.Field.{hexField}
-use Rattle.trace.specs.Groups.{ruleAt, rule1, rule2, rule3, rule4}
+use Rattle.lines.specs.declared.read.Field.{Field}
+use Rattle.trace.specs.Groups.{RuleIn, ruleAt, rule1, rule2, rule3, rule4, patternKept}
+use Rattle.trace.specs.declared.groups.RuleLines.{RuleLines}
 use Rattle.trace.proofs.groups.GroupLaws.{rule-within}
 use Rattle.trace.proofs.LineBounds.{number-fits}
 use borrow.Author.Needs.{needs}
 use Rattle.trace.proofs.groups.read_rule.Statement.{statement}
 use Rattle.trace.proofs.groups.read_rule.Tie as tie
+
+-- Each line has a place, just after its call. From there, the place of the line before it; from the end, the place of the last line.
+abbrev pattern : tie.After-word-field → tie.After-hex-field
+pattern c = c .before .before .before .before .before
+
+abbrev action : tie.After-word-field2 → tie.After-word-field
+action c = c .before .before .before .before .before
+
+abbrev policy : tie.After-number-field → tie.After-word-field2
+policy c = c .before .before .before .before
+
+abbrev rate : tie.After-struct-known5 → tie.After-number-field
+rate c = c .before .before .before .before .before
+
+-- What a statement at a place may speak of, so that it need not count its way back: s, at and d are the text, where the rule begins and the buffer as it was
+-- lent; x is the buffer as the first call left it, its fourth argument; then comes what each line up to there gave, by the letters of the definitions, p a q r.
+abbrev Of : Type 1 → Type 1
+Of X = List ℕ → ℕ → List ℕ → List ℕ → Field → X
+
+abbrev upto-pattern : tie.After-hex-field → {X : Type 1} → Of X → X
+upto-pattern c P =
+    let a = c .before .before .before .before .args in P (a .text .now) (a .at) (a .pattern .now) (c .hex-field .last .1 .1 .1 .0) (c .hex-field .result)
+
+abbrev upto-action : tie.After-word-field → {X : Type 1} → Of (Field → X) → X
+upto-action c P = upto-pattern (pattern c) P (c .word-field .result)
+
+abbrev upto-policy : tie.After-word-field2 → {X : Type 1} → Of (Field → Field → X) → X
+upto-policy c P = upto-action (action c) P (c .word-field2 .result)
+
+abbrev upto-rate : tie.After-number-field → {X : Type 1} → Of (Field → Field → Field → X) → X
+upto-rate c P = upto-policy (policy c) P (c .number-field .result)
+
+-- What the contract's two definitions have become: m and x. At a line's place the lines before it were read, so the definition of that line alone is left; each
+-- step below takes one more line, by the test of the line before and by what its own call gave.
+record Left (s : List ℕ) (at : ℕ) (d x : List ℕ) (m : RuleLines) : Type 0 where
+  rule : ruleAt s at ≡ m
+  pattern : x ≡ patternKept s at d
+
+left-pattern : (c : tie.After-hex-field) → upto-pattern c (λ s at d x p. Left s at d x (rule1 s p))
+unfolding ruleAt
+left-pattern c =
+    let l : upto-pattern c (λ s at d x p. length d ≡ 128) = search needs in
+    record { rule = rw (← rw l at (c .hex-field .ensures .0)); pattern = c .hex-field .ensures .1 .1 }
+
+left-action : (c : tie.After-word-field) → upto-action c (λ s at d x p a. Left s at d x (rule2 s p a))
+unfolding rule1
+left-action c = rw (eq-eqb _ _ (c .before .before .before .if1 .left), ← c .word-field .ensures .0) at (left-pattern (pattern c))
+
+left-policy : (c : tie.After-word-field2) → upto-policy c (λ s at d x p a q. Left s at d x (rule3 s p a q))
+unfolding rule2
+left-policy c = rw (eq-eqb _ _ (c .before .before .before .if2 .left), ← c .word-field2 .ensures .0) at (left-action (action c))
+
+left-rate : (c : tie.After-number-field) → upto-rate c (λ s at d x p a q r. Left s at d x (rule4 p a q r))
+unfolding rule3
+left-rate c = rw (eq-eqb _ _ (c .before .before .if3 .left), ← c .number-field .ensures .0) at (left-policy (policy c))
+
+-- A return's promises. The line at which it stands was refused, or was the last: either ends the definition.
+ends : {s : List ℕ} {at : ℕ} {d x : List ℕ} {m r : RuleLines} → Left s at d x m → r ≡ m → (r ≡ ruleAt s at) × (RuleIn s r × (x ≡ patternKept s at d))
+ends {at = at} w e = let g = e ∙ sym (w .rule) in (g, (rule-within _ at g, w .pattern))
 
 slice-aggregate-hex-field : tie.Need-slice-aggregate-hex-field
 slice-aggregate-hex-field c = search needs
@@ -21,21 +83,9 @@ hex-field-requires c κs = search needs
 rule-stopped-requires : tie.Need-rule-stopped-requires
 rule-stopped-requires c κs = search needs
 
-hex-is : (c : tie.After-hex-field)
-    → let start = c .before .before .before .before in
-    c .hex-field .result ≡ hexField (start .args .text .now) (start .args .at) (bytes "pattern=") 128
-hex-is c =
-    let start = c .before .before .before .before in
-    let l : length (start .args .pattern .now) ≡ 128 = search needs in rw l at (c .hex-field .ensures .0)
-
 returns : tie.Need-returns
-unfolding ruleAt rule1
-returns c =
-    let pattern = c .before .before .before in
-    let start = pattern .before .before .before .before in
-    let e : c .rule-stopped .result ≡ ruleAt (start .args .text .now) (start .args .at) =
-    rw (← hex-is pattern, ne-eqb _ _ (c .before .if1 .taken)) (c .rule-stopped .ensures) in
-    (e, (rule-within _ _ e, pattern .hex-field .ensures .1 .1))
+unfolding rule1
+returns c = ends (rw (ne-eqb _ _ (c .before .if1 .taken)) at (left-pattern (c .before .before .before))) (c .rule-stopped .ensures)
 
 slice-aggregate-word-field : tie.Need-slice-aggregate-word-field
 slice-aggregate-word-field c = search needs
@@ -50,15 +100,8 @@ rule-stopped-requires-2 : tie.Need-rule-stopped-requires-2
 rule-stopped-requires-2 c κs = search needs
 
 returns-2 : tie.Need-returns-2
-unfolding ruleAt rule1 rule2
-returns-2 c =
-    let action = c .before .before .before in
-    let after-pattern = action .before .before .before in
-    let pattern = after-pattern .before .before in
-    let start = pattern .before .before .before .before in
-    let e : c .rule-stopped2 .result ≡ ruleAt (start .args .text .now) (start .args .at) =
-    rw (← hex-is pattern, eq-eqb _ _ (after-pattern .if1 .left), ← action .word-field .ensures .0, ne-eqb _ _ (c .before .if2 .taken)) (c .rule-stopped2 .ensures) in
-    (e, (rule-within _ _ e, pattern .hex-field .ensures .1 .1))
+unfolding rule2
+returns-2 c = ends (rw (ne-eqb _ _ (c .before .if2 .taken)) at (left-action (c .before .before .before))) (c .rule-stopped2 .ensures)
 
 slice-aggregate-word-field-3 : tie.Need-slice-aggregate-word-field-3
 slice-aggregate-word-field-3 c = search needs
@@ -73,25 +116,8 @@ rule-stopped-requires-3 : tie.Need-rule-stopped-requires-3
 rule-stopped-requires-3 c κs = search needs
 
 returns-3 : tie.Need-returns-3
-unfolding ruleAt rule1 rule2 rule3
-returns-3 c =
-    let qos = c .before .before .before in
-    let after-action = qos .before .before .before in
-    let action = after-action .before .before in
-    let after-pattern = action .before .before .before in
-    let pattern = after-pattern .before .before in
-    let start = pattern .before .before .before .before in
-    let e : c .rule-stopped3 .result ≡ ruleAt (start .args .text .now) (start .args .at) =
-    rw (
-      ← hex-is pattern,
-      eq-eqb _ _ (after-pattern .if1 .left),
-      ← action .word-field .ensures .0,
-      eq-eqb _ _ (after-action .if2 .left),
-      ← qos .word-field2 .ensures .0,
-      ne-eqb _ _ (c .before .if3 .taken),
-    )
-    (c .rule-stopped3 .ensures) in
-    (e, (rule-within _ _ e, pattern .hex-field .ensures .1 .1))
+unfolding rule3
+returns-3 c = ends (rw (ne-eqb _ _ (c .before .if3 .taken)) at (left-policy (c .before .before .before))) (c .rule-stopped3 .ensures)
 
 slice-aggregate-number-field : tie.Need-slice-aggregate-number-field
 slice-aggregate-number-field c = search needs
@@ -103,29 +129,8 @@ rule-stopped-requires-4 : tie.Need-rule-stopped-requires-4
 rule-stopped-requires-4 c κs = search needs
 
 returns-4 : tie.Need-returns-4
-unfolding ruleAt rule1 rule2 rule3 rule4
-returns-4 c =
-    let rate = c .before .before .before in
-    let after-qos = rate .before .before in
-    let qos = after-qos .before .before in
-    let after-action = qos .before .before .before in
-    let action = after-action .before .before in
-    let after-pattern = action .before .before .before in
-    let pattern = after-pattern .before .before in
-    let start = pattern .before .before .before .before in
-    let e : c .rule-stopped4 .result ≡ ruleAt (start .args .text .now) (start .args .at) =
-    rw (
-      ← hex-is pattern,
-      eq-eqb _ _ (after-pattern .if1 .left),
-      ← action .word-field .ensures .0,
-      eq-eqb _ _ (after-action .if2 .left),
-      ← qos .word-field2 .ensures .0,
-      eq-eqb _ _ (after-qos .if3 .left),
-      ← rate .number-field .ensures .0,
-      ne-eqb _ _ (c .before .if4 .taken),
-    )
-    (c .rule-stopped4 .ensures) in
-    (e, (rule-within _ _ e, pattern .hex-field .ensures .1 .1))
+unfolding rule4
+returns-4 c = ends (rw (ne-eqb _ _ (c .before .if4 .taken)) at (left-rate (c .before .before .before))) (c .rule-stopped4 .ensures)
 
 action-at-requires : tie.Need-action-at-requires
 action-at-requires c κs = search needs
@@ -135,48 +140,13 @@ policy-at-requires c κs = search needs
 
 cast-t31 : tie.Need-cast-t31
 cast-t31 c =
-    let after-rate = c .before .before .before in
-    let rate = after-rate .before .before in
-    let h = number-fits _ _ _ 0 65535 (rate .number-field .ensures .0) (after-rate .if4 .left) in omega arith
+    let h = number-fits _ _ _ 0 65535 (rate c .number-field .ensures .0) (c .before .before .before .if4 .left) in omega arith
 
 returns-5 : tie.Need-returns-5
-unfolding ruleAt rule1 rule2 rule3 rule4
+unfolding rule4
 returns-5 c =
-    let action-at = c .before .before in
-    let after-rate = action-at .before in
-    let rate = after-rate .before .before in
-    let after-qos = rate .before .before in
-    let qos = after-qos .before .before in
-    let after-action = qos .before .before .before in
-    let action = after-action .before .before in
-    let after-pattern = action .before .before .before in
-    let pattern = after-pattern .before .before in
-    let start = pattern .before .before .before .before in
-    let e :
-    record {
-      number = 0;
-      line = 3;
-      next = rate .number-field .result .next;
-      «pattern_from» = pattern .hex-field .result .from;
-      «pattern_to» = pattern .hex-field .result .to;
-      action = action-at .action-at .result;
-      «qos_policy» = c .before .policy-at .result;
-      rate = rate .number-field .result .value;
-    }
-    ≡ ruleAt (start .args .text .now) (start .args .at) =
-    rw (
-      ← hex-is pattern,
-      eq-eqb _ _ (after-pattern .if1 .left),
-      ← action .word-field .ensures .0,
-      eq-eqb _ _ (after-action .if2 .left),
-      ← qos .word-field2 .ensures .0,
-      eq-eqb _ _ (after-qos .if3 .left),
-      ← rate .number-field .ensures .0,
-      eq-eqb _ _ (after-rate .if4 .left),
-      action-at .action-at .ensures,
-      c .before .policy-at .ensures,
-    ) in
-    (e, (rule-within _ _ e, pattern .hex-field .ensures .1 .1))
+    ends (rw (eq-eqb _ _ (c .before .before .before .if4 .left), ← c .before .before .action-at .ensures, ← c .before .policy-at .ensures) at (left-rate (rate c)))
+    refl
 
 pub read-rule-spec : {M : Type 1} → statement M
 read-rule-spec =
