@@ -44,15 +44,4 @@ pub run-spec : {M : Type 1} → statement M
 run-spec =
     tie.close
     (tie.spec
-    Inv-loop
-    μ-loop
-    new-requires
-    loop-holds
-    before-requires
-    answer-requires
-    slice-aggregate-say
-    say-requires
-    after-requires
-    loop-less
-    loop-again
-    returns)
+    Inv-loop μ-loop new-requires loop-holds before-requires answer-requires slice-aggregate-say say-requires after-requires loop-less loop-again returns)

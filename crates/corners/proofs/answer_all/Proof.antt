@@ -48,16 +48,4 @@ pub answer-all-spec : {M : Type 1} → statement M
 answer-all-spec =
     tie.close
     (tie.spec
-    Inv-loop
-    μ-loop
-    loop-holds
-    find-byte-requires
-    sub-answer
-    part-answer-start
-    part-answer-end
-    answer-requires
-    returns
-    add-at
-    loop-less
-    loop-again
-    returns-2)
+    Inv-loop μ-loop loop-holds find-byte-requires sub-answer part-answer-start part-answer-end answer-requires returns add-at loop-less loop-again returns-2)

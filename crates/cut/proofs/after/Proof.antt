@@ -40,13 +40,4 @@ returns-2 c =
 
 pub after-spec : {M : Type 1} → statement M
 after-spec =
-    tie.close
-    (tie.spec
-    find-byte-requires
-    upto-requires
-    returns
-    add-from
-    sub-result
-    part-result-start
-    part-result-end
-    returns-2)
+    tie.close (tie.spec find-byte-requires upto-requires returns add-from sub-result part-result-start part-result-end returns-2)

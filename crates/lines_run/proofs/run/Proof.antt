@@ -39,16 +39,4 @@ returns c = search needs
 
 pub run-spec : {M : Type 1} → statement M
 run-spec =
-    tie.close
-    (tie.spec
-    Inv-loop
-    μ-loop
-    loop-holds
-    before-requires
-    answer-requires
-    slice-aggregate-say
-    say-requires
-    after-requires
-    loop-less
-    loop-again
-    returns)
+    tie.close (tie.spec Inv-loop μ-loop loop-holds before-requires answer-requires slice-aggregate-say say-requires after-requires loop-less loop-again returns)

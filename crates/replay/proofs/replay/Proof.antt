@@ -62,20 +62,5 @@ pub replay-spec : {M : Type 1} → statement M
 replay-spec =
     tie.close
     (tie.spec
-    Inv-loop
-    μ-loop
-    loop-holds
-    add-number
-    before-requires
-    kind-of-requires
-    place-of-requires
-    add-requires
-    judged-requires
-    add-requires-2
-    after-requires
-    loop-less
-    loop-again
-    say-all-requires
-    same-length
-    same-length-2
-    returns)
+    Inv-loop μ-loop loop-holds add-number before-requires kind-of-requires place-of-requires add-requires judged-requires add-requires-2 after-requires
+    loop-less loop-again say-all-requires same-length same-length-2 returns)

@@ -30,13 +30,4 @@ returns c = search needs
 
 pub say-table-spec : {M : Type 1} → statement M
 say-table-spec =
-    tie.close
-    (tie.spec
-    Inv-loop
-    μ-loop
-    loop-holds
-    say-record-requires
-    add-i
-    loop-less
-    loop-again
-    returns)
+    tie.close (tie.spec Inv-loop μ-loop loop-holds say-record-requires add-i loop-less loop-again returns)

@@ -51,16 +51,4 @@ pub swap-spec : {M : Type 1} → statement M
 swap-spec =
     tie.close
     (tie.spec
-    Inv-loop
-    μ-loop
-    loop-holds
-    slice-read-swapped
-    swapped-requires
-    slice-write-s
-    add-i
-    loop-less
-    loop-again
-    same-length
-    returns
-    same-length-2
-    returns-2)
+    Inv-loop μ-loop loop-holds slice-read-swapped swapped-requires slice-write-s add-i loop-less loop-again same-length returns same-length-2 returns-2)

@@ -72,21 +72,5 @@ pub put-decimal-spec : {M : Type 1} → statement M
 put-decimal-spec =
     tie.close
     (tie.spec
-    Inv-loop
-    μ-loop
-    loop-holds
-    cast-digits
-    add-digits
-    array-write-digits
-    sub-i
-    loop-less
-    loop-again
-    cast-digits-2
-    add-digits-2
-    array-write-digits-2
-    sub-put-bytes
-    part-put-bytes-start
-    part-put-bytes-end
-    put-bytes-requires
-    same-length
-    returns)
+    Inv-loop μ-loop loop-holds cast-digits add-digits array-write-digits sub-i loop-less loop-again cast-digits-2 add-digits-2 array-write-digits-2
+    sub-put-bytes part-put-bytes-start part-put-bytes-end put-bytes-requires same-length returns)

@@ -48,15 +48,4 @@ returns c = rw (take-all _ _ (c .loop-test .left)) at (c .before .loop .inv .1)
 
 pub put-hex-spec : {M : Type 1} → statement M
 put-hex-spec =
-    tie.close
-    (tie.spec
-    Inv-loop
-    μ-loop
-    loop-holds
-    shared-slice-read-put-pair
-    put-pair-requires
-    add-i
-    loop-less
-    loop-again
-    same-length
-    returns)
+    tie.close (tie.spec Inv-loop μ-loop loop-holds shared-slice-read-put-pair put-pair-requires add-i loop-less loop-again same-length returns)

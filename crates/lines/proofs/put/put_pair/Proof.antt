@@ -32,11 +32,4 @@ returns c =
 
 pub put-pair-spec : {M : Type 1} → statement M
 put-pair-spec =
-    tie.close
-    (tie.spec
-    hex-digit-requires
-    put-byte-requires
-    hex-digit-requires-2
-    put-byte-requires-2
-    same-length
-    returns)
+    tie.close (tie.spec hex-digit-requires put-byte-requires hex-digit-requires-2 put-byte-requires-2 same-length returns)

@@ -26,12 +26,4 @@ returns c = rw (c .before .before .before .before .before .word-part .ensures .p
 
 pub put-word-spec : {M : Type 1} → statement M
 put-word-spec =
-    tie.close
-    (tie.spec
-    word-part-requires
-    sub-put-bytes
-    part-put-bytes-start
-    part-put-bytes-end
-    put-bytes-requires
-    same-length
-    returns)
+    tie.close (tie.spec word-part-requires sub-put-bytes part-put-bytes-start part-put-bytes-end put-bytes-requires same-length returns)

@@ -65,16 +65,5 @@ pub hex-field-spec : {M : Type 1} → statement M
 hex-field-spec =
     tie.close
     (tie.spec
-    line-at-requires
-    returns
-    sub-hex
-    part-hex-start
-    part-hex-end
-    hex-requires
-    refused-requires
-    same-length
-    returns-2
-    sub-read-as
-    read-as-requires
-    same-length-2
+    line-at-requires returns sub-hex part-hex-start part-hex-end hex-requires refused-requires same-length returns-2 sub-read-as read-as-requires same-length-2
     returns-3)

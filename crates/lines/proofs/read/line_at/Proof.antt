@@ -61,15 +61,5 @@ pub line-at-spec : {M : Type 1} → statement M
 line-at-spec =
     tie.close
     (tie.spec
-    span-from-requires
-    refused-requires
-    returns
-    sub-starts-with
-    part-starts-with-start
-    part-starts-with-end
-    starts-with-requires
-    refused-requires-2
-    returns-2
-    add-t13
-    add-t14
-    returns-3)
+    span-from-requires refused-requires returns sub-starts-with part-starts-with-start part-starts-with-end starts-with-requires refused-requires-2 returns-2
+    add-t13 add-t14 returns-3)

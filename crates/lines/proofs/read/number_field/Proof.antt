@@ -37,13 +37,4 @@ returns-2 c =
 
 pub number-field-spec : {M : Type 1} → statement M
 number-field-spec =
-    tie.close
-    (tie.spec
-    line-at-requires
-    returns
-    sub-decimal
-    part-decimal-start
-    part-decimal-end
-    decimal-requires
-    answered-requires
-    returns-2)
+    tie.close (tie.spec line-at-requires returns sub-decimal part-decimal-start part-decimal-end decimal-requires answered-requires returns-2)

@@ -37,13 +37,4 @@ returns-2 c =
 
 pub word-field-spec : {M : Type 1} → statement M
 word-field-spec =
-    tie.close
-    (tie.spec
-    line-at-requires
-    returns
-    sub-word
-    part-word-start
-    part-word-end
-    word-requires
-    answered-requires
-    returns-2)
+    tie.close (tie.spec line-at-requires returns sub-word part-word-start part-word-end word-requires answered-requires returns-2)

@@ -42,15 +42,4 @@ returns-2 c = sym (every-end isHex _ _ (c .loop-test .left)) ∙ c .before .loop
 
 pub all-hex-spec : {M : Type 1} → statement M
 all-hex-spec =
-    tie.close
-    (tie.spec
-    Inv-loop
-    μ-loop
-    loop-holds
-    shared-slice-read-c
-    is-hex-requires
-    returns
-    add-i
-    loop-less
-    loop-again
-    returns-2)
+    tie.close (tie.spec Inv-loop μ-loop loop-holds shared-slice-read-c is-hex-requires returns add-i loop-less loop-again returns-2)

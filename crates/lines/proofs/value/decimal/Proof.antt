@@ -72,20 +72,5 @@ pub decimal-spec : {M : Type 1} → statement M
 decimal-spec =
     tie.close
     (tie.spec
-    Inv-loop
-    μ-loop
-    no-spare-zero-requires
-    returns
-    loop-holds
-    shared-slice-read-c
-    digit-fits-requires
-    returns-2
-    mul-v
-    sub-v
-    cast-v
-    add-v
-    add-i
-    loop-less
-    loop-again
-    returns-3
-    returns-4)
+    Inv-loop μ-loop no-spare-zero-requires returns loop-holds shared-slice-read-c digit-fits-requires returns-2 mul-v sub-v cast-v add-v add-i loop-less
+    loop-again returns-3 returns-4)

@@ -70,21 +70,5 @@ pub put-unhex-spec : {M : Type 1} → statement M
 put-unhex-spec =
     tie.close
     (tie.spec
-    Inv-loop
-    μ-loop
-    loop-holds
-    mul-hex-value
-    shared-slice-read-hex-value
-    hex-value-requires
-    mul-hex-value-2
-    add-hex-value
-    shared-slice-read-hex-value-2
-    hex-value-requires-2
-    mul-out
-    add-out
-    slice-write-out
-    add-i
-    loop-less
-    loop-again
-    same-length
-    returns)
+    Inv-loop μ-loop loop-holds mul-hex-value shared-slice-read-hex-value hex-value-requires mul-hex-value-2 add-hex-value shared-slice-read-hex-value-2
+    hex-value-requires-2 mul-out add-out slice-write-out add-i loop-less loop-again same-length returns)

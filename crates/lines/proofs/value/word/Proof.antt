@@ -75,17 +75,5 @@ pub word-spec : {M : Type 1} → statement M
 word-spec =
     tie.close
     (tie.spec
-    Inv-loop
-    μ-loop
-    loop-holds
-    find-byte-requires
-    sub-same-bytes
-    part-same-bytes-start
-    part-same-bytes-end
-    same-bytes-requires
-    returns
-    returns-2
-    add-from
-    add-k
-    loop-less
-    loop-again)
+    Inv-loop μ-loop loop-holds find-byte-requires sub-same-bytes part-same-bytes-start part-same-bytes-end same-bytes-requires returns returns-2 add-from add-k
+    loop-less loop-again)

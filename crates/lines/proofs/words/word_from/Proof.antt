@@ -47,17 +47,4 @@ returns-2 c = (c .before .loop .inv .0, word-past _ _ (c .loop-test .left) ∙ c
 
 pub word-from-spec : {M : Type 1} → statement M
 word-from-spec =
-    tie.close
-    (tie.spec
-    Inv-loop
-    μ-loop
-    loop-holds
-    returns
-    shared-slice-read-c
-    add-i
-    sub-left
-    loop-less
-    loop-again
-    loop-less-2
-    loop-again-2
-    returns-2)
+    tie.close (tie.spec Inv-loop μ-loop loop-holds returns shared-slice-read-c add-i sub-left loop-less loop-again loop-less-2 loop-again-2 returns-2)

@@ -95,21 +95,5 @@ pub held-spec : {M : Type 1} → statement M
 held-spec =
     tie.close
     (tie.spec
-    Inv-loop
-    μ-loop
-    free-rules-requires
-    loop-holds
-    pattern-at-requires
-    slice-aggregate-plan-rule
-    plan-rule-requires
-    mul-rules
-    array-set-from-rules
-    add-k
-    loop-less
-    loop-again
-    slice-aggregate-plan-rule-2
-    plan-rule-requires-2
-    mul-rules-2
-    array-set-from-rules-2
-    returns
-    returns-2)
+    Inv-loop μ-loop free-rules-requires loop-holds pattern-at-requires slice-aggregate-plan-rule plan-rule-requires mul-rules array-set-from-rules add-k
+    loop-less loop-again slice-aggregate-plan-rule-2 plan-rule-requires-2 mul-rules-2 array-set-from-rules-2 returns returns-2)

@@ -172,31 +172,6 @@ pub hub-loop-spec : {M : Type 1} → statement M
 hub-loop-spec =
     tie.close
     (tie.spec
-    Inv-loop
-    μ-loop
-    returns
-    returns-2
-    within-requires
-    sub-readied
-    readied-requires
-    loop-holds
-    add-to
-    loop-message-requires
-    sub-plan-for
-    part-plan-for-start
-    part-plan-for-end
-    slice-aggregate-plan-for
-    plan-for-requires
-    count-on-requires
-    mul-entry
-    element-set-from-entry
-    mul-bucket
-    element-set-from-bucket
-    mul-tracker
-    element-set-from-tracker
-    count-if-requires
-    next-from-requires
-    add-k
-    loop-less
-    loop-again
-    returns-3)
+    Inv-loop μ-loop returns returns-2 within-requires sub-readied readied-requires loop-holds add-to loop-message-requires sub-plan-for part-plan-for-start
+    part-plan-for-end slice-aggregate-plan-for plan-for-requires count-on-requires mul-entry element-set-from-entry mul-bucket element-set-from-bucket
+    mul-tracker element-set-from-tracker count-if-requires next-from-requires add-k loop-less loop-again returns-3)

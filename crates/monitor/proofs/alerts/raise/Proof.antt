@@ -36,14 +36,4 @@ returns-2 c = rw (lt-ltb _ _ (c .before .before .before .before .if1 .left), c .
 
 pub raise-spec : {M : Type 1} → statement M
 raise-spec =
-    tie.close
-    (tie.spec
-    cast-at
-    returns
-    alert-of-requires
-    mul-alert
-    element-set-from-alert
-    add-next
-    id-after-requires
-    count-on-requires
-    returns-2)
+    tie.close (tie.spec cast-at returns alert-of-requires mul-alert element-set-from-alert add-next id-after-requires count-on-requires returns-2)

@@ -30,12 +30,4 @@ returns c =
 
 pub raise-all-spec : {M : Type 1} → statement M
 raise-all-spec =
-    tie.close
-    (tie.spec
-    none-raised-requires
-    raise-if-requires
-    raise-if-requires-2
-    raise-if-requires-3
-    raise-if-requires-4
-    raise-if-requires-5
-    returns)
+    tie.close (tie.spec none-raised-requires raise-if-requires raise-if-requires-2 raise-if-requires-3 raise-if-requires-4 raise-if-requires-5 returns)

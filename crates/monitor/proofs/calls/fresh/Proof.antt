@@ -22,10 +22,4 @@ returns c = rw (c .before .before .before .free-rules .ensures, c .before .befor
 
 pub fresh-spec : {M : Type 1} → statement M
 fresh-spec =
-    tie.close
-    (tie.spec
-    free-rules-requires
-    free-buckets-requires
-    free-windows-requires
-    free-trackers-requires
-    returns)
+    tie.close (tie.spec free-rules-requires free-buckets-requires free-windows-requires free-trackers-requires returns)

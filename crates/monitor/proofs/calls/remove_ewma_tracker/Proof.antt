@@ -61,15 +61,5 @@ pub remove-ewma-tracker-spec : {M : Type 1} → statement M
 remove-ewma-tracker-spec =
     tie.close
     (tie.spec
-    well-formed-requires
-    refused-requires
-    returns
-    id-of-requires
-    removed-tracker-requires
-    refused-requires-2
-    returns-2
-    empty-tracker-requires
-    mul-free
-    element-set-from-free
-    done-requires
-    returns-3)
+    well-formed-requires refused-requires returns id-of-requires removed-tracker-requires refused-requires-2 returns-2 empty-tracker-requires mul-free
+    element-set-from-free done-requires returns-3)

@@ -61,15 +61,5 @@ pub remove-rate-bucket-spec : {M : Type 1} → statement M
 remove-rate-bucket-spec =
     tie.close
     (tie.spec
-    well-formed-requires
-    refused-requires
-    returns
-    id-of-requires
-    removed-bucket-requires
-    refused-requires-2
-    returns-2
-    empty-bucket-requires
-    mul-free
-    element-set-from-free
-    done-requires
-    returns-3)
+    well-formed-requires refused-requires returns id-of-requires removed-bucket-requires refused-requires-2 returns-2 empty-bucket-requires mul-free
+    element-set-from-free done-requires returns-3)

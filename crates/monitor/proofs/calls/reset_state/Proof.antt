@@ -39,11 +39,4 @@ pub reset-state-spec : {M : Type 1} → statement M
 reset-state-spec =
     tie.close
     (tie.spec
-    well-formed-requires
-    refused-requires
-    returns
-    free-buckets-requires
-    free-windows-requires
-    free-trackers-requires
-    done-requires
-    returns-2)
+    well-formed-requires refused-requires returns free-buckets-requires free-windows-requires free-trackers-requires done-requires returns-2)

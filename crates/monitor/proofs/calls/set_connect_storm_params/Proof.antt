@@ -36,13 +36,4 @@ returns-2 c =
 
 pub set-connect-storm-params-spec : {M : Type 1} → statement M
 set-connect-storm-params-spec =
-    tie.close
-    (tie.spec
-    well-formed-requires
-    refused-requires
-    returns
-    clamp-requires
-    cast-next
-    clamp-requires-2
-    done-requires
-    returns-2)
+    tie.close (tie.spec well-formed-requires refused-requires returns clamp-requires cast-next clamp-requires-2 done-requires returns-2)

@@ -49,12 +49,4 @@ pub gate-after-spec : {M : Type 1} → statement M
 gate-after-spec =
     tie.close
     (tie.spec
-    is-broad-subscribe-requires
-    is-reserved-requires
-    denied-by-requires
-    returns
-    is-block-requires
-    denied-by-requires-2
-    returns-2
-    goes-on-requires
-    returns-3)
+    is-broad-subscribe-requires is-reserved-requires denied-by-requires returns is-block-requires denied-by-requires-2 returns-2 goes-on-requires returns-3)

@@ -85,15 +85,5 @@ pub gate-for-spec : {M : Type 1} → statement M
 gate-for-spec =
     tie.close
     (tie.spec
-    type-number-requires
-    is-topical-requires
-    ends-early-requires
-    returns
-    ends-early-requires-2
-    returns-2
-    is-bad-publish-requires
-    ends-early-requires-3
-    returns-3
-    rule-for-requires
-    gate-after-requires
-    returns-4)
+    type-number-requires is-topical-requires ends-early-requires returns ends-early-requires-2 returns-2 is-bad-publish-requires ends-early-requires-3
+    returns-3 rule-for-requires gate-after-requires returns-4)

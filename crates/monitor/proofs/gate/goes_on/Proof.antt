@@ -23,10 +23,4 @@ returns c =
 
 pub goes-on-spec : {M : Type 1} → statement M
 goes-on-spec =
-    tie.close
-    (tie.spec
-    stage-of-requires
-    check-qos-policy-requires
-    rate-of-requires
-    feeds-tracker-requires
-    returns)
+    tie.close (tie.spec stage-of-requires check-qos-policy-requires rate-of-requires feeds-tracker-requires returns)

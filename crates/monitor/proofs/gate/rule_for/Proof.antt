@@ -84,17 +84,5 @@ pub rule-for-spec : {M : Type 1} → statement M
 rule-for-spec =
     tie.close
     (tie.spec
-    Inv-loop
-    μ-loop
-    places-requires
-    loop-holds
-    mul-rule
-    array-copy-out-rule
-    takes-requires
-    ruled-by-requires
-    returns
-    add-i
-    loop-less
-    loop-again
-    ruled-by-default-requires
-    returns-2)
+    Inv-loop μ-loop places-requires loop-holds mul-rule array-copy-out-rule takes-requires ruled-by-requires returns add-i loop-less loop-again
+    ruled-by-default-requires returns-2)

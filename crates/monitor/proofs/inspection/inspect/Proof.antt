@@ -145,25 +145,6 @@ pub inspect-spec : {M : Type 1} → statement M
 inspect-spec =
     tie.close
     (tie.spec
-    well-formed-requires
-    refused-requires
-    returns
-    cast-used
-    used-requires
-    refused-requires-2
-    returns-2
-    cast-used-2
-    used-requires-2
-    refused-requires-3
-    returns-3
-    slice-aggregate-plan-for
-    slice-aggregate-plan-for-2
-    plan-for-requires
-    mul-entry
-    element-set-from-entry
-    mul-bucket
-    element-set-from-bucket
-    mul-tracker
-    element-set-from-tracker
-    count-on-requires
-    returns-4)
+    well-formed-requires refused-requires returns cast-used used-requires refused-requires-2 returns-2 cast-used-2 used-requires-2 refused-requires-3 returns-3
+    slice-aggregate-plan-for slice-aggregate-plan-for-2 plan-for-requires mul-entry element-set-from-entry mul-bucket element-set-from-bucket mul-tracker
+    element-set-from-tracker count-on-requires returns-4)

@@ -33,12 +33,4 @@ returns c =
 
 pub plan-for-spec : {M : Type 1} → statement M
 plan-for-spec =
-    tie.close
-    (tie.spec
-    gate-for-requires
-    seen-for-requires
-    id-for-requires
-    spent-for-requires
-    fed-for-requires
-    plan-from-requires
-    returns)
+    tie.close (tie.spec gate-for-requires seen-for-requires id-for-requires spent-for-requires fed-for-requires plan-from-requires returns)

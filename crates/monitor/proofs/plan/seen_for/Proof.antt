@@ -29,11 +29,4 @@ returns-2 c =
 
 pub seen-for-spec : {M : Type 1} → statement M
 seen-for-spec =
-    tie.close
-    (tie.spec
-    type-number-requires
-    not-connected-requires
-    returns
-    client-hashes-requires
-    record-connect-requires
-    returns-2)
+    tie.close (tie.spec type-number-requires not-connected-requires returns client-hashes-requires record-connect-requires returns-2)

@@ -43,13 +43,4 @@ returns-3 c =
 
 pub add-rule-spec : {M : Type 1} → statement M
 add-rule-spec =
-    tie.close
-    (tie.spec
-    well-formed-requires
-    refused-requires
-    returns
-    plan-rule-requires
-    refused-requires-2
-    returns-2
-    stored-requires
-    returns-3)
+    tie.close (tie.spec well-formed-requires refused-requires returns plan-rule-requires refused-requires-2 returns-2 stored-requires returns-3)

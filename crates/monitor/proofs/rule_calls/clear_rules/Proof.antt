@@ -28,11 +28,4 @@ returns-2 c = c .done .ensures ∙ (rw (c .before .free-rules .ensures) (ended-d
 
 pub clear-rules-spec : {M : Type 1} → statement M
 clear-rules-spec =
-    tie.close
-    (tie.spec
-    well-formed-requires
-    refused-requires
-    returns
-    free-rules-requires
-    done-requires
-    returns-2)
+    tie.close (tie.spec well-formed-requires refused-requires returns free-rules-requires done-requires returns-2)

@@ -47,15 +47,4 @@ returns-3 c =
 
 pub remove-rule-spec : {M : Type 1} → statement M
 remove-rule-spec =
-    tie.close
-    (tie.spec
-    well-formed-requires
-    refused-requires
-    returns
-    cast-count
-    refused-requires-2
-    returns-2
-    without-requires
-    sub-next
-    done-requires
-    returns-3)
+    tie.close (tie.spec well-formed-requires refused-requires returns cast-count refused-requires-2 returns-2 without-requires sub-next done-requires returns-3)

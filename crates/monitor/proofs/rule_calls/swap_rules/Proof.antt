@@ -75,21 +75,5 @@ pub swap-rules-spec : {M : Type 1} → statement M
 swap-rules-spec =
     tie.close
     (tie.spec
-    well-formed-requires
-    refused-requires
-    returns
-    cast-count
-    refused-requires-2
-    returns-2
-    refused-requires-3
-    returns-3
-    mul-first
-    element-copy-out-first
-    mul-second
-    element-copy-out-second
-    mul-second-2
-    element-set-from-second
-    mul-first-2
-    element-set-from-first
-    done-requires
-    returns-4)
+    well-formed-requires refused-requires returns cast-count refused-requires-2 returns-2 refused-requires-3 returns-3 mul-first element-copy-out-first
+    mul-second element-copy-out-second mul-second-2 element-set-from-second mul-first-2 element-set-from-first done-requires returns-4)

@@ -85,23 +85,5 @@ pub without-spec : {M : Type 1} → statement M
 without-spec =
     tie.close
     (tie.spec
-    Inv-loop
-    μ-loop
-    sub-after
-    sub-after-2
-    loop-holds
-    add-rule
-    add-rule-2
-    mul-rule
-    array-copy-out-rule
-    add-left
-    mul-left
-    array-set-from-left
-    add-i
-    loop-less
-    loop-again
-    empty-rule-requires
-    add-left-2
-    mul-left-2
-    array-set-from-left-2
-    returns)
+    Inv-loop μ-loop sub-after sub-after-2 loop-holds add-rule add-rule-2 mul-rule array-copy-out-rule add-left mul-left array-set-from-left add-i loop-less
+    loop-again empty-rule-requires add-left-2 mul-left-2 array-set-from-left-2 returns)

@@ -57,16 +57,4 @@ returns-2 c =
 
 pub buckets-fine-spec : {M : Type 1} → statement M
 buckets-fine-spec =
-    tie.close
-    (tie.spec
-    Inv-loop
-    μ-loop
-    loop-holds
-    mul-bucket
-    array-copy-out-bucket
-    bucket-fine-requires
-    returns
-    add-i
-    loop-less
-    loop-again
-    returns-2)
+    tie.close (tie.spec Inv-loop μ-loop loop-holds mul-bucket array-copy-out-bucket bucket-fine-requires returns add-i loop-less loop-again returns-2)

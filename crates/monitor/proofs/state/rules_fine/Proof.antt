@@ -58,16 +58,4 @@ returns-2 c =
 
 pub rules-fine-spec : {M : Type 1} → statement M
 rules-fine-spec =
-    tie.close
-    (tie.spec
-    Inv-loop
-    μ-loop
-    loop-holds
-    mul-rule
-    array-copy-out-rule
-    rule-fine-requires
-    returns
-    add-i
-    loop-less
-    loop-again
-    returns-2)
+    tie.close (tie.spec Inv-loop μ-loop loop-holds mul-rule array-copy-out-rule rule-fine-requires returns add-i loop-less loop-again returns-2)

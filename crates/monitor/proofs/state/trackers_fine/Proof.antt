@@ -57,16 +57,4 @@ returns-2 c =
 
 pub trackers-fine-spec : {M : Type 1} → statement M
 trackers-fine-spec =
-    tie.close
-    (tie.spec
-    Inv-loop
-    μ-loop
-    loop-holds
-    mul-tracker
-    array-copy-out-tracker
-    tracker-fine-requires
-    returns
-    add-i
-    loop-less
-    loop-again
-    returns-2)
+    tie.close (tie.spec Inv-loop μ-loop loop-holds mul-tracker array-copy-out-tracker tracker-fine-requires returns add-i loop-less loop-again returns-2)

@@ -64,13 +64,4 @@ pub well-formed-spec : {M : Type 1} → statement M
 well-formed-spec =
     tie.close
     (tie.spec
-    cast-count
-    returns
-    rules-fine-requires
-    returns-2
-    buckets-fine-requires
-    returns-3
-    windows-fine-requires
-    returns-4
-    trackers-fine-requires
-    returns-5)
+    cast-count returns rules-fine-requires returns-2 buckets-fine-requires returns-3 windows-fine-requires returns-4 trackers-fine-requires returns-5)

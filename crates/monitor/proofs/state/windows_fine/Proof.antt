@@ -57,16 +57,4 @@ returns-2 c =
 
 pub windows-fine-spec : {M : Type 1} → statement M
 windows-fine-spec =
-    tie.close
-    (tie.spec
-    Inv-loop
-    μ-loop
-    loop-holds
-    mul-entry
-    array-copy-out-entry
-    window-fine-requires
-    returns
-    add-i
-    loop-less
-    loop-again
-    returns-2)
+    tie.close (tie.spec Inv-loop μ-loop loop-holds mul-entry array-copy-out-entry window-fine-requires returns add-i loop-less loop-again returns-2)

@@ -74,25 +74,6 @@ pub say-all-spec : {M : Type 1} → statement M
 say-all-spec =
     tie.close
     (tie.spec
-    Inv-loop
-    μ-loop
-    loop-holds
-    element-copy-out-t16
-    slice-aggregate-say-counts
-    mul-say-counts
-    array-read-say-counts
-    mul-say-counts-2
-    array-read-say-counts-2
-    say-counts-requires
-    mul-wrapping-add-u64
-    array-read-wrapping-add-u64
-    wrapping-add-u64-requires
-    mul-wrapping-add-u64-2
-    array-read-wrapping-add-u64-2
-    wrapping-add-u64-requires-2
-    add-k
-    loop-less
-    loop-again
-    slice-aggregate-say-counts-2
-    say-counts-requires-2
-    returns)
+    Inv-loop μ-loop loop-holds element-copy-out-t16 slice-aggregate-say-counts mul-say-counts array-read-say-counts mul-say-counts-2 array-read-say-counts-2
+    say-counts-requires mul-wrapping-add-u64 array-read-wrapping-add-u64 wrapping-add-u64-requires mul-wrapping-add-u64-2 array-read-wrapping-add-u64-2
+    wrapping-add-u64-requires-2 add-k loop-less loop-again slice-aggregate-say-counts-2 say-counts-requires-2 returns)

@@ -55,17 +55,4 @@ pub repeat-spec : {M : Type 1} → statement M
 repeat-spec =
     tie.close
     (tie.spec
-    Inv-loop
-    μ-loop
-    returns
-    loop-holds
-    sub-s
-    slice-read-s
-    slice-write-s
-    add-i
-    loop-less
-    loop-again
-    same-length
-    returns-2
-    same-length-2
-    returns-3)
+    Inv-loop μ-loop returns loop-holds sub-s slice-read-s slice-write-s add-i loop-less loop-again same-length returns-2 same-length-2 returns-3)

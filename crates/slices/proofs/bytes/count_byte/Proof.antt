@@ -49,16 +49,4 @@ returns c = omega (arith, count-end (c .before .before .args .c) (c .before .bef
 
 pub count-byte-spec : {M : Type 1} → statement M
 count-byte-spec =
-    tie.close
-    (tie.spec
-    Inv-loop
-    μ-loop
-    loop-holds
-    add-next
-    shared-slice-read-if1
-    add-n
-    loop-less
-    loop-again
-    loop-less-2
-    loop-again-2
-    returns)
+    tie.close (tie.spec Inv-loop μ-loop loop-holds add-next shared-slice-read-if1 add-n loop-less loop-again loop-less-2 loop-again-2 returns)

@@ -39,14 +39,4 @@ returns-2 c = place-found _ _ _ (place-end _ _ _ (c .loop-test .left) ∙ c .bef
 
 pub find-byte-spec : {M : Type 1} → statement M
 find-byte-spec =
-    tie.close
-    (tie.spec
-    Inv-loop
-    μ-loop
-    loop-holds
-    shared-slice-read-if1
-    returns
-    add-i
-    loop-less
-    loop-again
-    returns-2)
+    tie.close (tie.spec Inv-loop μ-loop loop-holds shared-slice-read-if1 returns add-i loop-less loop-again returns-2)

@@ -39,14 +39,4 @@ returns-2 c = sym (sym (c .before .loop .inv .1) ∙ has-end _ _ (c .loop-test .
 
 pub has-byte-spec : {M : Type 1} → statement M
 has-byte-spec =
-    tie.close
-    (tie.spec
-    Inv-loop
-    μ-loop
-    loop-holds
-    shared-slice-read-if1
-    returns
-    add-i
-    loop-less
-    loop-again
-    returns-2)
+    tie.close (tie.spec Inv-loop μ-loop loop-holds shared-slice-read-if1 returns add-i loop-less loop-again returns-2)

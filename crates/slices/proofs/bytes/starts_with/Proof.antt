@@ -44,16 +44,4 @@ returns-3 c = begins-end _ _ _ (c .loop-test .left) ∙ c .before .loop .inv .2
 
 pub starts-with-spec : {M : Type 1} → statement M
 starts-with-spec =
-    tie.close
-    (tie.spec
-    Inv-loop
-    μ-loop
-    returns
-    loop-holds
-    shared-slice-read-if2
-    shared-slice-read-if2-2
-    returns-2
-    add-i
-    loop-less
-    loop-again
-    returns-3)
+    tie.close (tie.spec Inv-loop μ-loop returns loop-holds shared-slice-read-if2 shared-slice-read-if2-2 returns-2 add-i loop-less loop-again returns-3)

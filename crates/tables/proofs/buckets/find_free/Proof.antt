@@ -52,15 +52,4 @@ returns-2 c =
 
 pub find-free-spec : {M : Type 1} → statement M
 find-free-spec =
-    tie.close
-    (tie.spec
-    Inv-loop
-    μ-loop
-    loop-holds
-    mul-bucket
-    array-copy-out-bucket
-    returns
-    add-i
-    loop-less
-    loop-again
-    returns-2)
+    tie.close (tie.spec Inv-loop μ-loop loop-holds mul-bucket array-copy-out-bucket returns add-i loop-less loop-again returns-2)

@@ -62,14 +62,5 @@ pub newcomer-spec : {M : Type 1} → statement M
 newcomer-spec =
     tie.close
     (tie.spec
-    find-free-requires
-    granted-requires
-    returns
-    find-oldest-requires
-    mul-bucket
-    array-copy-out-bucket
-    is-expired-requires
-    granted-requires-2
-    returns-2
-    make-requires
-    returns-3)
+    find-free-requires granted-requires returns find-oldest-requires mul-bucket array-copy-out-bucket is-expired-requires granted-requires-2 returns-2
+    make-requires returns-3)

@@ -65,16 +65,5 @@ pub rate-limit-check-spec : {M : Type 1} → statement M
 rate-limit-check-spec =
     tie.close
     (tie.spec
-    Inv-loop
-    μ-loop
-    loop-holds
-    mul-bucket
-    array-copy-out-bucket
-    holds-bucket-requires
-    spent-at-requires
-    returns
-    add-i
-    loop-less
-    loop-again
-    newcomer-requires
+    Inv-loop μ-loop loop-holds mul-bucket array-copy-out-bucket holds-bucket-requires spent-at-requires returns add-i loop-less loop-again newcomer-requires
     returns-2)

@@ -28,11 +28,4 @@ returns-2 c =
 
 pub refilled-spec : {M : Type 1} → statement M
 refilled-spec =
-    tie.close
-    (tie.spec
-    since-requires
-    refill-requires
-    returns
-    topped-requires
-    with-tokens-requires
-    returns-2)
+    tie.close (tie.spec since-requires refill-requires returns topped-requires with-tokens-requires returns-2)

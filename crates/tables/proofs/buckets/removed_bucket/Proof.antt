@@ -59,16 +59,4 @@ returns-2 c =
 
 pub removed-bucket-spec : {M : Type 1} → statement M
 removed-bucket-spec =
-    tie.close
-    (tie.spec
-    Inv-loop
-    μ-loop
-    loop-holds
-    mul-bucket
-    array-copy-out-bucket
-    removes-bucket-requires
-    returns
-    add-i
-    loop-less
-    loop-again
-    returns-2)
+    tie.close (tie.spec Inv-loop μ-loop loop-holds mul-bucket array-copy-out-bucket removes-bucket-requires returns add-i loop-less loop-again returns-2)

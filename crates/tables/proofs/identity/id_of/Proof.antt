@@ -34,13 +34,4 @@ returns c =
 
 pub id-of-spec : {M : Type 1} → statement M
 id-of-spec =
-    tie.close
-    (tie.spec
-    fnv1a-hash-requires
-    djb2-hash-requires
-    prefix-of-requires
-    least-requires
-    cast-t7
-    cast-t10
-    suffix-hash-requires
-    returns)
+    tie.close (tie.spec fnv1a-hash-requires djb2-hash-requires prefix-of-requires least-requires cast-t7 cast-t10 suffix-hash-requires returns)

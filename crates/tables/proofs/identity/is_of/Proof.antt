@@ -52,14 +52,4 @@ returns-5 c =
 
 pub is-of-spec : {M : Type 1} → statement M
 is-of-spec =
-    tie.close
-    (tie.spec
-    returns
-    returns-2
-    returns-3
-    returns-4
-    cast-least
-    cast-least-2
-    least-requires
-    same-prefix-requires
-    returns-5)
+    tie.close (tie.spec returns returns-2 returns-3 returns-4 cast-least cast-least-2 least-requires same-prefix-requires returns-5)

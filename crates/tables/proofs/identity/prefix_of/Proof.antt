@@ -45,15 +45,4 @@ returns c =
 
 pub prefix-of-spec : {M : Type 1} → statement M
 prefix-of-spec =
-    tie.close
-    (tie.spec
-    Inv-loop
-    μ-loop
-    least-requires
-    loop-holds
-    shared-slice-read-prefix
-    array-write-prefix
-    add-i
-    loop-less
-    loop-again
-    returns)
+    tie.close (tie.spec Inv-loop μ-loop least-requires loop-holds shared-slice-read-prefix array-write-prefix add-i loop-less loop-again returns)

@@ -33,10 +33,4 @@ pub same-prefix-spec : {M : Type 1} → statement M
 same-prefix-spec =
     tie.close
     (tie.spec
-    least-requires
-    array-share-prefix-a
-    slice-aggregate-same-bytes
-    array-share-prefix-b
-    slice-aggregate-same-bytes-2
-    same-bytes-requires
-    returns)
+    least-requires array-share-prefix-a slice-aggregate-same-bytes array-share-prefix-b slice-aggregate-same-bytes-2 same-bytes-requires returns)

@@ -41,13 +41,5 @@ pub check-qos-policy-spec : {M : Type 1} → statement M
 check-qos-policy-spec =
     tie.close
     (tie.spec
-    enum-told
-    enum-known-policy
-    qos-number-requires
-    qos-number-requires-2
-    enum-known-policy-2
-    qos-number-requires-3
-    qos-number-requires-4
-    returns
-    returns-2
+    enum-told enum-known-policy qos-number-requires qos-number-requires-2 enum-known-policy-2 qos-number-requires-3 qos-number-requires-4 returns returns-2
     returns-3)

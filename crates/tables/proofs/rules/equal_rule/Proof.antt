@@ -73,15 +73,4 @@ pub equal-rule-spec : {M : Type 1} → statement M
 equal-rule-spec =
     tie.close
     (tie.spec
-    Inv-loop
-    μ-loop
-    places-requires
-    loop-holds
-    mul-has-pattern
-    array-copy-out-has-pattern
-    has-pattern-requires
-    returns
-    add-i
-    loop-less
-    loop-again
-    returns-2)
+    Inv-loop μ-loop places-requires loop-holds mul-has-pattern array-copy-out-has-pattern has-pattern-requires returns add-i loop-less loop-again returns-2)

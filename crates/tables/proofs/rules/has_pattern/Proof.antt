@@ -37,11 +37,4 @@ returns-2 c =
 
 pub has-pattern-spec : {M : Type 1} → statement M
 has-pattern-spec =
-    tie.close
-    (tie.spec
-    returns
-    used-requires
-    array-share-prefix-held
-    slice-aggregate-same-bytes
-    same-bytes-requires
-    returns-2)
+    tie.close (tie.spec returns used-requires array-share-prefix-held slice-aggregate-same-bytes same-bytes-requires returns-2)

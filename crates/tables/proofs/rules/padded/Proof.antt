@@ -39,14 +39,4 @@ returns c = c .before .loop .inv .1 ∙ padded-done 64 (c .before .before .args 
 
 pub padded-spec : {M : Type 1} → statement M
 padded-spec =
-    tie.close
-    (tie.spec
-    Inv-loop
-    μ-loop
-    loop-holds
-    shared-slice-read-bytes
-    array-write-bytes
-    add-i
-    loop-less
-    loop-again
-    returns)
+    tie.close (tie.spec Inv-loop μ-loop loop-holds shared-slice-read-bytes array-write-bytes add-i loop-less loop-again returns)

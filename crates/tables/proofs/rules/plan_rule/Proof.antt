@@ -68,17 +68,5 @@ pub plan-rule-spec : {M : Type 1} → statement M
 plan-rule-spec =
     tie.close
     (tie.spec
-    pattern-refusal-requires
-    not-taken-requires
-    returns
-    equal-rule-requires
-    counts-requires
-    mul-held
-    array-copy-out-held
-    overwritten-requires
-    returns-2
-    not-taken-requires-2
-    returns-3
-    rule-of-requires
-    add-t20
-    returns-4)
+    pattern-refusal-requires not-taken-requires returns equal-rule-requires counts-requires mul-held array-copy-out-held overwritten-requires returns-2
+    not-taken-requires-2 returns-3 rule-of-requires add-t20 returns-4)

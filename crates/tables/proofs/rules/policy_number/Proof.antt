@@ -37,13 +37,4 @@ pub policy-number-spec : {M : Type 1} → statement M
 policy-number-spec =
     tie.close
     (tie.spec
-    enum-told
-    enum-known-policy
-    qos-number-requires
-    add-result
-    enum-known-policy-2
-    qos-number-requires-2
-    add-result-2
-    returns
-    returns-2
-    returns-3)
+    enum-told enum-known-policy qos-number-requires add-result enum-known-policy-2 qos-number-requires-2 add-result-2 returns returns-2 returns-3)

@@ -36,12 +36,4 @@ returns-3 c =
 
 pub rule-fine-spec : {M : Type 1} → statement M
 rule-fine-spec =
-    tie.close
-    (tie.spec
-    returns
-    cast-n
-    returns-2
-    array-share-prefix-pattern
-    slice-aggregate-pattern-refusal
-    pattern-refusal-requires
-    returns-3)
+    tie.close (tie.spec returns cast-n returns-2 array-share-prefix-pattern slice-aggregate-pattern-refusal pattern-refusal-requires returns-3)

@@ -113,23 +113,5 @@ pub shadow-count-spec : {M : Type 1} → statement M
 shadow-count-spec =
     tie.close
     (tie.spec
-    Inv-earlier
-    μ-earlier
-    Inv-loop
-    μ-loop
-    places-requires
-    loop-holds
-    mul-later
-    array-copy-out-later
-    earlier-holds
-    mul-shadows
-    array-copy-out-shadows
-    shadows-requires
-    add-shadowed
-    add-i
-    earlier-less
-    earlier-again
-    add-at
-    loop-less
-    loop-again
-    returns)
+    Inv-earlier μ-earlier Inv-loop μ-loop places-requires loop-holds mul-later array-copy-out-later earlier-holds mul-shadows array-copy-out-shadows
+    shadows-requires add-shadowed add-i earlier-less earlier-again add-at loop-less loop-again returns)

@@ -37,11 +37,4 @@ returns-2 c =
 
 pub shadows-spec : {M : Type 1} → statement M
 shadows-spec =
-    tie.close
-    (tie.spec
-    returns
-    used-requires
-    array-share-prefix-pattern
-    slice-aggregate-takes
-    takes-requires
-    returns-2)
+    tie.close (tie.spec returns used-requires array-share-prefix-pattern slice-aggregate-takes takes-requires returns-2)

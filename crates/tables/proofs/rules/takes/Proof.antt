@@ -37,11 +37,4 @@ returns-2 c =
 
 pub takes-spec : {M : Type 1} → statement M
 takes-spec =
-    tie.close
-    (tie.spec
-    returns
-    used-requires
-    array-share-prefix-pattern
-    slice-aggregate-matches-with
-    matches-with-requires
-    returns-2)
+    tie.close (tie.spec returns used-requires array-share-prefix-pattern slice-aggregate-matches-with matches-with-requires returns-2)

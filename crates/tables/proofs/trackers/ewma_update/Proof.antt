@@ -72,18 +72,5 @@ pub ewma-update-spec : {M : Type 1} → statement M
 ewma-update-spec =
     tie.close
     (tie.spec
-    Inv-loop
-    μ-loop
-    loop-holds
-    mul-tracker
-    array-copy-out-tracker
-    is-tracker-requires
-    feed-at-requires
-    returns
-    add-i
-    loop-less
-    loop-again
-    find-seat-requires
-    fresh-tracker-requires
-    feed-at-requires-2
-    returns-2)
+    Inv-loop μ-loop loop-holds mul-tracker array-copy-out-tracker is-tracker-requires feed-at-requires returns add-i loop-less loop-again find-seat-requires
+    fresh-tracker-requires feed-at-requires-2 returns-2)

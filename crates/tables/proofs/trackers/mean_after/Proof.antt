@@ -41,14 +41,4 @@ returns-4 c =
 
 pub mean-after-spec : {M : Type 1} → statement M
 mean-after-spec =
-    tie.close
-    (tie.spec
-    mul-result
-    returns
-    sum-after-requires
-    least-requires
-    returns-2
-    sum-after-requires-2
-    returns-3
-    weighed-requires
-    returns-4)
+    tie.close (tie.spec mul-result returns sum-after-requires least-requires returns-2 sum-after-requires-2 returns-3 weighed-requires returns-4)

@@ -55,16 +55,4 @@ returns-2 c =
 
 pub removed-tracker-spec : {M : Type 1} → statement M
 removed-tracker-spec =
-    tie.close
-    (tie.spec
-    Inv-loop
-    μ-loop
-    loop-holds
-    mul-tracker
-    array-copy-out-tracker
-    is-removed-tracker-requires
-    returns
-    add-i
-    loop-less
-    loop-again
-    returns-2)
+    tie.close (tie.spec Inv-loop μ-loop loop-holds mul-tracker array-copy-out-tracker is-removed-tracker-requires returns add-i loop-less loop-again returns-2)

@@ -72,16 +72,5 @@ pub count-in-window-spec : {M : Type 1} → statement M
 count-in-window-spec =
     tie.close
     (tie.spec
-    Inv-loop
-    μ-loop
-    held-of-requires
-    start-of-requires
-    loop-holds
-    mul-one-from
-    array-read-one-from
-    one-from-requires
-    add-count
-    add-i
-    loop-less
-    loop-again
+    Inv-loop μ-loop held-of-requires start-of-requires loop-holds mul-one-from array-read-one-from one-from-requires add-count add-i loop-less loop-again
     returns)

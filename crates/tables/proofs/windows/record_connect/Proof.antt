@@ -72,18 +72,5 @@ pub record-connect-spec : {M : Type 1} → statement M
 record-connect-spec =
     tie.close
     (tie.spec
-    Inv-loop
-    μ-loop
-    loop-holds
-    mul-entry
-    array-copy-out-entry
-    is-client-requires
-    connect-at-requires
-    returns
-    add-i
-    loop-less
-    loop-again
-    find-seat-requires
-    fresh-window-requires
-    connect-at-requires-2
-    returns-2)
+    Inv-loop μ-loop loop-holds mul-entry array-copy-out-entry is-client-requires connect-at-requires returns add-i loop-less loop-again find-seat-requires
+    fresh-window-requires connect-at-requires-2 returns-2)

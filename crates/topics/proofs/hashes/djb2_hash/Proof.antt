@@ -41,14 +41,4 @@ returns c = fold-end djbStep _ (c .before .loop .inv .1) (c .loop-test .left)
 
 pub djb2-hash-spec : {M : Type 1} → statement M
 djb2-hash-spec =
-    tie.close
-    (tie.spec
-    Inv-loop
-    μ-loop
-    loop-holds
-    shared-slice-read-djb-step
-    djb-step-requires
-    add-i
-    loop-less
-    loop-again
-    returns)
+    tie.close (tie.spec Inv-loop μ-loop loop-holds shared-slice-read-djb-step djb-step-requires add-i loop-less loop-again returns)

@@ -41,14 +41,4 @@ returns c = fold-end fnvStep _ (c .before .loop .inv .1) (c .loop-test .left)
 
 pub fnv1a-hash-spec : {M : Type 1} → statement M
 fnv1a-hash-spec =
-    tie.close
-    (tie.spec
-    Inv-loop
-    μ-loop
-    loop-holds
-    shared-slice-read-fnv-step
-    fnv-step-requires
-    add-i
-    loop-less
-    loop-again
-    returns)
+    tie.close (tie.spec Inv-loop μ-loop loop-holds shared-slice-read-fnv-step fnv-step-requires add-i loop-less loop-again returns)

@@ -29,11 +29,4 @@ returns-2 c = rw (lt-leb _ _ (c .before .before .if1 .left), ← tail-whole _ 32
 
 pub suffix-hash-spec : {M : Type 1} → statement M
 suffix-hash-spec =
-    tie.close
-    (tie.spec
-    returns
-    sub-djb2-hash
-    part-djb2-hash-start
-    part-djb2-hash-end
-    djb2-hash-requires
-    returns-2)
+    tie.close (tie.spec returns sub-djb2-hash part-djb2-hash-start part-djb2-hash-end djb2-hash-requires returns-2)

@@ -41,12 +41,4 @@ returns-3 c =
 
 pub takes-end-spec : {M : Type 1} → statement M
 takes-end-spec =
-    tie.close
-    (tie.spec
-    returns
-    add-next
-    shared-slice-read-if3
-    takes-none-requires
-    returns-2
-    takes-none-requires-2
-    returns-3)
+    tie.close (tie.spec returns add-next shared-slice-read-if3 takes-none-requires returns-2 takes-none-requires-2 returns-3)

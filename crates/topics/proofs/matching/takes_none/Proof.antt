@@ -43,13 +43,4 @@ returns-5 c =
 
 pub takes-none-spec : {M : Type 1} → statement M
 takes-none-spec =
-    tie.close
-    (tie.spec
-    returns
-    add-next
-    shared-slice-read-c
-    returns-2
-    returns-3
-    returns-4
-    shared-slice-read-result
-    returns-5)
+    tie.close (tie.spec returns add-next shared-slice-read-c returns-2 returns-3 returns-4 shared-slice-read-result returns-5)

@@ -99,20 +99,5 @@ pub walk-spec : {M : Type 1} → statement M
 walk-spec =
     tie.close
     (tie.spec
-    Inv-loop
-    μ-loop
-    loop-holds
-    returns
-    shared-slice-read-c
-    add-next
-    returns-2
-    find-byte-requires
-    loop-less
-    loop-again
-    shared-slice-read-if4
-    returns-3
-    add-ti
-    loop-less-2
-    loop-again-2
-    takes-end-requires
-    returns-4)
+    Inv-loop μ-loop loop-holds returns shared-slice-read-c add-next returns-2 find-byte-requires loop-less loop-again shared-slice-read-if4 returns-3 add-ti
+    loop-less-2 loop-again-2 takes-end-requires returns-4)

@@ -46,15 +46,4 @@ returns-2 c = sym (sym (c .before .loop .inv .1) ∙ bad-end _ (c .loop-test .le
 
 pub contains-invalid-publish-char-spec : {M : Type 1} → statement M
 contains-invalid-publish-char-spec =
-    tie.close
-    (tie.spec
-    Inv-loop
-    μ-loop
-    loop-holds
-    shared-slice-read-is-bad-byte
-    is-bad-byte-requires
-    returns
-    add-i
-    loop-less
-    loop-again
-    returns-2)
+    tie.close (tie.spec Inv-loop μ-loop loop-holds shared-slice-read-is-bad-byte is-bad-byte-requires returns add-i loop-less loop-again returns-2)

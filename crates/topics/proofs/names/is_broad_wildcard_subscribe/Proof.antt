@@ -40,12 +40,5 @@ pub is-broad-wildcard-subscribe-spec : {M : Type 1} → statement M
 is-broad-wildcard-subscribe-spec =
     tie.close
     (tie.spec
-    slice-aggregate-same-bytes
-    same-bytes-requires
-    returns
-    slice-aggregate-same-bytes-2
-    same-bytes-requires-2
-    returns-2
-    slice-aggregate-same-bytes-3
-    same-bytes-requires-3
-    returns-3)
+    slice-aggregate-same-bytes same-bytes-requires returns slice-aggregate-same-bytes-2 same-bytes-requires-2 returns-2 slice-aggregate-same-bytes-3
+    same-bytes-requires-3 returns-3)

@@ -49,14 +49,4 @@ returns-6 c =
 
 pub pattern-refusal-spec : {M : Type 1} → statement M
 pattern-refusal-spec =
-    tie.close
-    (tie.spec
-    returns
-    returns-2
-    has-byte-requires
-    returns-3
-    count-byte-requires
-    returns-4
-    validate-mqtt-wildcard-requires
-    returns-5
-    returns-6)
+    tie.close (tie.spec returns returns-2 has-byte-requires returns-3 count-byte-requires returns-4 validate-mqtt-wildcard-requires returns-5 returns-6)

@@ -86,19 +86,5 @@ pub validate-mqtt-wildcard-spec : {M : Type 1} → statement M
 validate-mqtt-wildcard-spec =
     tie.close
     (tie.spec
-    Inv-loop
-    μ-loop
-    returns
-    loop-holds
-    shared-slice-read-c
-    add-next
-    returns-2
-    returns-3
-    returns-4
-    level-ends-requires
-    returns-5
-    loop-less
-    loop-again
-    loop-less-2
-    loop-again-2
-    returns-6)
+    Inv-loop μ-loop returns loop-holds shared-slice-read-c add-next returns-2 returns-3 returns-4 level-ends-requires returns-5 loop-less loop-again
+    loop-less-2 loop-again-2 returns-6)

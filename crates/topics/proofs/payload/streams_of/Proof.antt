@@ -46,13 +46,4 @@ pub streams-of-spec : {M : Type 1} → statement M
 streams-of-spec =
     tie.close
     (tie.spec
-    Inv-loop
-    μ-loop
-    streams-start-requires
-    loop-holds
-    shared-slice-read-streams-step
-    streams-step-requires
-    add-i
-    loop-less
-    loop-again
-    returns)
+    Inv-loop μ-loop streams-start-requires loop-holds shared-slice-read-streams-step streams-step-requires add-i loop-less loop-again returns)

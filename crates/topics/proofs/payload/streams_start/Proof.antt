@@ -22,10 +22,4 @@ returns c = cc
 
 pub streams-start-spec : {M : Type 1} → statement M
 streams-start-spec =
-    tie.close
-    (tie.spec
-    cast-len
-    wrapping-add-u32-requires
-    wrapping-add-u32-requires-2
-    wrapping-mul32-requires
-    returns)
+    tie.close (tie.spec cast-len wrapping-add-u32-requires wrapping-add-u32-requires-2 wrapping-mul32-requires returns)

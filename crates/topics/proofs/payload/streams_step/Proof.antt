@@ -36,12 +36,5 @@ pub streams-step-spec : {M : Type 1} → statement M
 streams-step-spec =
     tie.close
     (tie.spec
-    fnv-step-requires
-    rotate-left-requires
-    wrapping-mul32-requires
-    fnv-step-requires-2
-    rotate-left-requires-2
-    wrapping-mul32-requires-2
-    mul-wrapping-mul32
-    wrapping-mul32-requires-3
-    returns)
+    fnv-step-requires rotate-left-requires wrapping-mul32-requires fnv-step-requires-2 rotate-left-requires-2 wrapping-mul32-requires-2 mul-wrapping-mul32
+    wrapping-mul32-requires-3 returns)

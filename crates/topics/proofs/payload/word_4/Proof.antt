@@ -25,11 +25,4 @@ returns c = cc
 
 pub word-4-spec : {M : Type 1} → statement M
 word-4-spec =
-    tie.close
-    (tie.spec
-    wrapping-mul32-requires
-    word-2-requires
-    wrapping-mul32-requires-2
-    rotate-left-requires
-    rotate-left-requires-2
-    returns)
+    tie.close (tie.spec wrapping-mul32-requires word-2-requires wrapping-mul32-requires-2 rotate-left-requires rotate-left-requires-2 returns)

@@ -33,11 +33,4 @@ pub word-6-spec : {M : Type 1} → statement M
 word-6-spec =
     tie.close
     (tie.spec
-    rotate-left-requires
-    word-2-requires
-    rotate-left-requires-2
-    rotate-left-requires-3
-    word-4-requires
-    rotate-left-requires-4
-    rotate-left-requires-5
-    returns)
+    rotate-left-requires word-2-requires rotate-left-requires-2 rotate-left-requires-3 word-4-requires rotate-left-requires-4 rotate-left-requires-5 returns)

@@ -25,11 +25,4 @@ returns c = cc
 
 pub word-8-spec : {M : Type 1} → statement M
 word-8-spec =
-    tie.close
-    (tie.spec
-    word-5-requires
-    wrapping-mul32-requires
-    word-6-requires
-    wrapping-add-u32-requires
-    wrapping-mul32-requires-2
-    returns)
+    tie.close (tie.spec word-5-requires wrapping-mul32-requires word-6-requires wrapping-add-u32-requires wrapping-mul32-requires-2 returns)

@@ -28,12 +28,4 @@ returns c = cc
 
 pub word-bytes-spec : {M : Type 1} → statement M
 word-bytes-spec =
-    tie.close
-    (tie.spec
-    word-2-requires
-    word-4-requires
-    word-5-requires
-    word-6-requires
-    word-8-requires
-    le-words-requires
-    returns)
+    tie.close (tie.spec word-2-requires word-4-requires word-5-requires word-6-requires word-8-requires le-words-requires returns)

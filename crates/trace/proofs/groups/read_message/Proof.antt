@@ -240,38 +240,9 @@ pub read-message-spec : {M : Type 1} → statement M
 read-message-spec =
     tie.close
     (tie.spec
-    slice-aggregate-number-field
-    number-field-requires
-    message-stopped-requires
-    returns
-    slice-aggregate-word-field
-    slice-aggregate-word-field-2
-    word-field-requires
-    message-stopped-requires-2
-    returns-2
-    slice-aggregate-number-field-2
-    number-field-requires-2
-    message-stopped-requires-3
-    returns-3
-    slice-aggregate-number-field-3
-    number-field-requires-3
-    message-stopped-requires-4
-    returns-4
-    slice-aggregate-hex-field
-    hex-field-requires
-    message-stopped-requires-5
-    returns-5
-    slice-aggregate-number-field-4
-    number-field-requires-4
-    message-stopped-requires-6
-    returns-6
-    slice-aggregate-hex-field-2
-    hex-field-requires-2
-    message-stopped-requires-7
-    returns-7
-    type-at-requires
-    qos-at-requires
-    cast-t43
-    cast-t44
-    cast-t45
+    slice-aggregate-number-field number-field-requires message-stopped-requires returns slice-aggregate-word-field slice-aggregate-word-field-2
+    word-field-requires message-stopped-requires-2 returns-2 slice-aggregate-number-field-2 number-field-requires-2 message-stopped-requires-3 returns-3
+    slice-aggregate-number-field-3 number-field-requires-3 message-stopped-requires-4 returns-4 slice-aggregate-hex-field hex-field-requires
+    message-stopped-requires-5 returns-5 slice-aggregate-number-field-4 number-field-requires-4 message-stopped-requires-6 returns-6
+    slice-aggregate-hex-field-2 hex-field-requires-2 message-stopped-requires-7 returns-7 type-at-requires qos-at-requires cast-t43 cast-t44 cast-t45
     returns-8)

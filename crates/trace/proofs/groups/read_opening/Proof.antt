@@ -70,14 +70,5 @@ pub read-opening-spec : {M : Type 1} → statement M
 read-opening-spec =
     tie.close
     (tie.spec
-    slice-aggregate-word-field
-    slice-aggregate-word-field-2
-    word-field-requires
-    opening-stopped-requires
-    returns
-    slice-aggregate-number-field
-    number-field-requires
-    opening-stopped-requires-2
-    returns-2
-    action-at-requires
-    returns-3)
+    slice-aggregate-word-field slice-aggregate-word-field-2 word-field-requires opening-stopped-requires returns slice-aggregate-number-field
+    number-field-requires opening-stopped-requires-2 returns-2 action-at-requires returns-3)

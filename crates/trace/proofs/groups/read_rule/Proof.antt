@@ -152,25 +152,6 @@ pub read-rule-spec : {M : Type 1} → statement M
 read-rule-spec =
     tie.close
     (tie.spec
-    slice-aggregate-hex-field
-    hex-field-requires
-    rule-stopped-requires
-    returns
-    slice-aggregate-word-field
-    slice-aggregate-word-field-2
-    word-field-requires
-    rule-stopped-requires-2
-    returns-2
-    slice-aggregate-word-field-3
-    slice-aggregate-word-field-4
-    word-field-requires-2
-    rule-stopped-requires-3
-    returns-3
-    slice-aggregate-number-field
-    number-field-requires
-    rule-stopped-requires-4
-    returns-4
-    action-at-requires
-    policy-at-requires
-    cast-t31
-    returns-5)
+    slice-aggregate-hex-field hex-field-requires rule-stopped-requires returns slice-aggregate-word-field slice-aggregate-word-field-2 word-field-requires
+    rule-stopped-requires-2 returns-2 slice-aggregate-word-field-3 slice-aggregate-word-field-4 word-field-requires-2 rule-stopped-requires-3 returns-3
+    slice-aggregate-number-field number-field-requires rule-stopped-requires-4 returns-4 action-at-requires policy-at-requires cast-t31 returns-5)

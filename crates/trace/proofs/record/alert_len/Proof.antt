@@ -79,18 +79,6 @@ pub alert-len-spec : {M : Type 1} → statement M
 alert-len-spec =
     tie.close
     (tie.spec
-    severity-number-requires
-    slice-aggregate-number-line-len
-    number-line-len-requires
-    slice-aggregate-number-line-len-2
-    cast-number-line-len
-    number-line-len-requires-2
-    slice-aggregate-number-line-len-3
-    number-line-len-requires-3
-    slice-aggregate-hex-line-len
-    slice-aggregate-hex-line-len-2
-    hex-line-len-requires
-    add-result
-    add-result-2
-    add-result-3
-    returns)
+    severity-number-requires slice-aggregate-number-line-len number-line-len-requires slice-aggregate-number-line-len-2 cast-number-line-len
+    number-line-len-requires-2 slice-aggregate-number-line-len-3 number-line-len-requires-3 slice-aggregate-hex-line-len slice-aggregate-hex-line-len-2
+    hex-line-len-requires add-result add-result-2 add-result-3 returns)

@@ -56,17 +56,4 @@ returns-2 c =
 
 pub alerts-len-spec : {M : Type 1} → statement M
 alerts-len-spec =
-    tie.close
-    (tie.spec
-    Inv-loop
-    μ-loop
-    loop-holds
-    returns
-    mul-alert
-    array-copy-out-alert
-    alert-len-requires
-    add-p
-    add-i
-    loop-less
-    loop-again
-    returns-2)
+    tie.close (tie.spec Inv-loop μ-loop loop-holds returns mul-alert array-copy-out-alert alert-len-requires add-p add-i loop-less loop-again returns-2)

@@ -63,15 +63,5 @@ pub closing-len-spec : {M : Type 1} → statement M
 closing-len-spec =
     tie.close
     (tie.spec
-    slice-aggregate-number-line-len
-    number-line-len-requires
-    slice-aggregate-number-line-len-2
-    number-line-len-requires-2
-    slice-aggregate-number-line-len-3
-    number-line-len-requires-3
-    slice-aggregate-number-line-len-4
-    number-line-len-requires-4
-    add-result
-    add-result-2
-    add-result-3
-    returns)
+    slice-aggregate-number-line-len number-line-len-requires slice-aggregate-number-line-len-2 number-line-len-requires-2 slice-aggregate-number-line-len-3
+    number-line-len-requires-3 slice-aggregate-number-line-len-4 number-line-len-requires-4 add-result add-result-2 add-result-3 returns)

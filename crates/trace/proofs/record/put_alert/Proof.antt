@@ -58,16 +58,6 @@ pub put-alert-spec : {M : Type 1} → statement M
 put-alert-spec =
     tie.close
     (tie.spec
-    severity-number-requires
-    slice-aggregate-put-number-line
-    put-number-line-requires
-    slice-aggregate-put-number-line-2
-    cast-put-number-line
-    put-number-line-requires-2
-    slice-aggregate-put-number-line-3
-    put-number-line-requires-3
-    slice-aggregate-put-hex-line
-    slice-aggregate-put-hex-line-2
-    put-hex-line-requires
-    same-length
-    returns)
+    severity-number-requires slice-aggregate-put-number-line put-number-line-requires slice-aggregate-put-number-line-2 cast-put-number-line
+    put-number-line-requires-2 slice-aggregate-put-number-line-3 put-number-line-requires-3 slice-aggregate-put-hex-line slice-aggregate-put-hex-line-2
+    put-hex-line-requires same-length returns)

@@ -67,16 +67,4 @@ pub put-alerts-spec : {M : Type 1} → statement M
 put-alerts-spec =
     tie.close
     (tie.spec
-    Inv-loop
-    μ-loop
-    loop-holds
-    same-length
-    returns
-    mul-alert
-    array-copy-out-alert
-    put-alert-requires
-    add-i
-    loop-less
-    loop-again
-    same-length-2
-    returns-2)
+    Inv-loop μ-loop loop-holds same-length returns mul-alert array-copy-out-alert put-alert-requires add-i loop-less loop-again same-length-2 returns-2)

@@ -47,13 +47,5 @@ pub put-closing-spec : {M : Type 1} → statement M
 put-closing-spec =
     tie.close
     (tie.spec
-    slice-aggregate-put-number-line
-    put-number-line-requires
-    slice-aggregate-put-number-line-2
-    put-number-line-requires-2
-    slice-aggregate-put-number-line-3
-    put-number-line-requires-3
-    slice-aggregate-put-number-line-4
-    put-number-line-requires-4
-    same-length
-    returns)
+    slice-aggregate-put-number-line put-number-line-requires slice-aggregate-put-number-line-2 put-number-line-requires-2 slice-aggregate-put-number-line-3
+    put-number-line-requires-3 slice-aggregate-put-number-line-4 put-number-line-requires-4 same-length returns)

@@ -49,14 +49,5 @@ pub put-record-spec : {M : Type 1} → statement M
 put-record-spec =
     tie.close
     (tie.spec
-    slice-aggregate-put-number-line
-    put-number-line-requires
-    slice-aggregate-put-flag-line
-    put-flag-line-requires
-    slice-aggregate-put-number-line-2
-    cast-put-number-line
-    put-number-line-requires-2
-    cast-put-alerts
-    put-alerts-requires
-    same-length
-    returns)
+    slice-aggregate-put-number-line put-number-line-requires slice-aggregate-put-flag-line put-flag-line-requires slice-aggregate-put-number-line-2
+    cast-put-number-line put-number-line-requires-2 cast-put-alerts put-alerts-requires same-length returns)

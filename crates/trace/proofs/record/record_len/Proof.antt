@@ -64,16 +64,5 @@ pub record-len-spec : {M : Type 1} → statement M
 record-len-spec =
     tie.close
     (tie.spec
-    slice-aggregate-number-line-len
-    number-line-len-requires
-    slice-aggregate-flag-line-len
-    flag-line-len-requires
-    slice-aggregate-number-line-len-2
-    cast-number-line-len
-    number-line-len-requires-2
-    cast-alerts-len
-    alerts-len-requires
-    add-result
-    add-result-2
-    add-result-3
-    returns)
+    slice-aggregate-number-line-len number-line-len-requires slice-aggregate-flag-line-len flag-line-len-requires slice-aggregate-number-line-len-2
+    cast-number-line-len number-line-len-requires-2 cast-alerts-len alerts-len-requires add-result add-result-2 add-result-3 returns)
