@@ -1,5 +1,5 @@
 -- The ways through the gate: each is what the code hands back there, from what the tests and calls on the way answered. Assumes nothing.
-use mathlib.Core.Bool.{Bool, true, false, not, _&&_}
+use mathlib.Core.Bool.{Bool, true, false, cond, not, _&&_}
 use mathlib.Core.List.{List, [], _∷_}
 use mathlib.Core.Path.{_≡_, refl, sym, _∙_}
 use Prim.Native.Nat.{ℕ, _<_, _≤_, min}
@@ -8,7 +8,7 @@ use borrow.Author.Tests.{le-ltb, lt-ltb}
 use lib.Dec.{eqb}
 use lib.ListN.{length, getD}
 use Rattle.laws.specs.Lists.{none}
-use Rattle.topics.specs.Names.{isBroad, startsWithDollar}
+use Rattle.topics.specs.Names.{isBroad, startsWithDollar, badPublish}
 use Rattle.laws.proofs.Tests.{both}
 use Rattle.tables.specs.Rules.{firstRule, noRule}
 use Rattle.tables.specs.declared.rules.TopicAction.{TopicAction}
@@ -17,7 +17,7 @@ use Rattle.monitor.specs.declared.gate.Gate.{Gate}
 use Rattle.monitor.specs.declared.gate.Ruling.{Ruling}
 use Rattle.monitor.specs.declared.message.MqttMessage.{MqttMessage}
 use Rattle.monitor.specs.Message.{typeNumber}
-use Rattle.monitor.specs.Gate.{isBlock, ruledBy, ruledByDefault, rulingOf, deniedBy, goesOn, gateAfter}
+use Rattle.monitor.specs.Gate.{isBlock, isTopical, ruledBy, ruledByDefault, rulingOf, endsEarly, deniedBy, goesOn, gateAfter, gateOf}
 
 -- an empty topic and any other, by their length
 pub none-empty : (t : List ℕ) → length t ≡ 0 → none t ≡ true
@@ -58,3 +58,11 @@ module _ (msg : MqttMessage) (topic : List ℕ) (r : Ruling) {n : ℕ} {broad re
   pub after-passed : {block : Bool} → reserved ≡ false → block ≡ isBlock (r .action) → block ≡ false → g ≡ goesOn msg broad r → g ≡ gateAfter msg topic r
   unfolding gateAfter
   after-passed h k b e = let p = rw (← type) at e in rw (← type, sym dollar ∙ h, sym k ∙ b, ← wide) p
+
+-- a Publish, Subscribe or Unsubscribe with a topic: what is left is kind 9 and the rules
+pub gate-on : (matcher : List ℕ → List ℕ → Bool) (rules : List TopicRule) (n : ℕ) (default : TopicAction) (msg : MqttMessage) (topic : List ℕ)
+    → isTopical (typeNumber (msg .«packet_type»)) ≡ true → (length topic ≡ 0 → ⊥)
+    → gateOf matcher rules n default msg topic
+    ≡ cond (eqb (typeNumber (msg .«packet_type»)) 3 && badPublish topic) (endsEarly 9) (gateAfter msg topic (rulingOf matcher rules n default topic))
+unfolding gateOf
+gate-on matcher rules n default msg topic t h = rw (t, none-not topic h)

@@ -1,9 +1,13 @@
 -- `gate::gate_for` meets its contract: each return by the tests that lead to it. Assumes nothing.
-use mathlib.Core.Path.{sym, _∙_}
+use mathlib.Core.Bool.{cond, _&&_}
+use mathlib.Core.Path.{_≡_, sym, _∙_}
 use borrow.Author.Tests.{not-true, not-false}
 use borrow.Author.Needs.{needs}
-use Rattle.monitor.specs.Gate.{gateOf}
-use Rattle.monitor.proofs.gate.GateLaws.{none-empty, none-not}
+use lib.Dec.{eqb}
+use Rattle.topics.specs.Names.{badPublish}
+use Rattle.tables.specs.Rules.{ruleMatches}
+use Rattle.monitor.specs.Gate.{endsEarly, gateAfter, gateOf, rulingOf}
+use Rattle.monitor.proofs.gate.GateLaws.{none-empty, gate-on}
 use Rattle.monitor.proofs.gate.gate_for.Statement.{statement}
 use Rattle.monitor.proofs.gate.gate_for.Tie as tie
 
@@ -44,20 +48,23 @@ is-bad-publish-requires c κs = search needs
 ends-early-requires-3 : tie.Need-ends-early-requires-3
 ends-early-requires-3 c κs = search needs
 
+-- a topic of a type that has one: what is left of the gate, by the number of its type
+looked-at : (c : tie.Else2)
+    → let t = c .before .before .before in
+    let a = t .before .before .args in
+    gateOf ruleMatches (a .rules) (a .count) (a .default-action) (a .msg) (a .topic .now)
+    ≡ cond (eqb (t .type-number .result) 3 && badPublish (a .topic .now)) (endsEarly 9)
+    (gateAfter (a .msg) (a .topic .now) (rulingOf ruleMatches (a .rules) (a .count) (a .default-action) (a .topic .now)))
+looked-at c =
+    let f = c .before in
+    let k = f .before in
+    let e = k .before .type-number .ensures in
+    rw e (gate-on _ _ _ _ _ _ (rw (← e) (sym (k .is-topical .ensures) ∙ not-false (k .is-topical .result) (f .if1 .left))) (c .if2 .left))
+
 returns-3 : tie.Need-returns-3
-unfolding gateOf
 returns-3 c =
     let b = c .before .before in
-    let f = b .before .before in
-    let k = f .before in
-    let t = k .before .before .before .args .topic .now in
-    rw (
-      ← k .before .type-number .ensures,
-      sym (k .is-topical .ensures) ∙ not-false (k .is-topical .result) (f .if1 .left),
-      none-not t (b .before .if2 .left),
-      sym (b .is-bad-publish .ensures) ∙ c .before .if3 .taken,
-    )
-    (c .ends-early3 .ensures)
+    rw (looked-at (b .before), sym (b .is-bad-publish .ensures) ∙ c .before .if3 .taken) (c .ends-early3 .ensures)
 
 rule-for-requires : tie.Need-rule-for-requires
 rule-for-requires c κs = search needs
@@ -66,20 +73,9 @@ gate-after-requires : tie.Need-gate-after-requires
 gate-after-requires c κs = search needs
 
 returns-4 : tie.Need-returns-4
-unfolding gateOf
 returns-4 c =
     let b = c .before .before .before in
-    let f = b .before .before in
-    let k = f .before in
-    let t = k .before .before .before .args .topic .now in
-    rw (
-      ← k .before .type-number .ensures,
-      sym (k .is-topical .ensures) ∙ not-false (k .is-topical .result) (f .if1 .left),
-      none-not t (b .before .if2 .left),
-      sym (b .is-bad-publish .ensures) ∙ c .before .before .if3 .left,
-      ← c .before .rule-for .ensures,
-    )
-    (c .gate-after .ensures)
+    rw (looked-at (b .before), sym (b .is-bad-publish .ensures) ∙ c .before .before .if3 .left, ← c .before .rule-for .ensures) (c .gate-after .ensures)
 
 pub gate-for-spec : {M : Type 1} → statement M
 gate-for-spec =

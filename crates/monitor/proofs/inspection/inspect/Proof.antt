@@ -4,6 +4,7 @@ use mathlib.Core.Path.{_≡_, sym}
 use lib.Seq.{length-take-le}
 use Rattle.tables.specs.Rules.{ruleMatches}
 use Rattle.monitor.specs.Inspect.{storedAt}
+use Rattle.monitor.specs.declared.state.MqttMonitor.{MqttMonitor}
 use Rattle.monitor.proofs.inspection.ApplyLaws.{stored-yes, stored-no, withClients, withBuckets, withTrackers, stored-all, not-formed, short-topic, short-payload, inspected}
 use borrow.Author.Needs.{needs}
 use Rattle.monitor.proofs.inspection.inspect.Statement.{statement}
@@ -21,6 +22,20 @@ at-formed c = c .before .before .before
 
 abbrev at-start : tie.Else1 → tie.Start
 at-start c = c .before .before .before .before
+
+-- after the plan: the client is stored, the bucket is
+abbrev at-plan : tie.Joined4 → tie.After-plan-for
+at-plan c = c .before .before
+
+abbrev at-client : tie.Joined5 → tie.Joined4
+at-client c = c .before .before
+
+abbrev at-bucket : tie.Joined6 → tie.Joined5
+at-bucket c = c .before .before
+
+-- the state that the call was handed
+abbrev handed : tie.After-plan-for → MqttMonitor
+handed c = at-start (at-formed (at-topic (at-payload c))) .args .m
 
 well-formed-requires : tie.Need-well-formed-requires
 well-formed-requires c κs = search needs
@@ -42,8 +57,9 @@ refused-requires-2 c κs = search needs
 
 returns-2 : tie.Need-returns-2
 returns-2 c =
-    let formed = c .before .before .before .before in
-    short-topic ruleMatches _ _ _ _ (formed .before .well-formed .ensures) (formed .if1 .left) (c .before .before .used .ensures) (c .before .if2 .taken) (c .refused2 .ensures)
+    let used = c .before .before in
+    let formed = used .before .before in
+    short-topic ruleMatches _ _ _ _ (formed .before .well-formed .ensures) (formed .if1 .left) (used .used .ensures) (c .before .if2 .taken) (c .refused2 .ensures)
 
 cast-used-2 : tie.Need-cast-used-2
 cast-used-2 c = search needs
@@ -56,13 +72,14 @@ refused-requires-3 c κs = search needs
 
 returns-3 : tie.Need-returns-3
 returns-3 c =
-    let topic = c .before .before .before .before in
+    let used = c .before .before in
+    let topic = used .before .before in
     let formed = at-formed topic in
     short-payload ruleMatches _ _ _ _ (formed .before .well-formed .ensures) (formed .if1 .left) (topic .before .used .ensures) (topic .if2 .left)
-    (c .before .before .used2 .ensures) (c .before .if3 .taken) (c .refused3 .ensures)
+    (used .used2 .ensures) (c .before .if3 .taken) (c .refused3 .ensures)
 
 slice-aggregate-plan-for : tie.Need-slice-aggregate-plan-for
-slice-aggregate-plan-for c = sym (length-take-le _ _ (c .before .before .before .before .if2 .left))
+slice-aggregate-plan-for c = sym (length-take-le _ _ (at-topic (c .before) .if2 .left))
 
 slice-aggregate-plan-for-2 : tie.Need-slice-aggregate-plan-for-2
 slice-aggregate-plan-for-2 c = sym (length-take-le _ _ (c .before .before .if3 .left))
@@ -93,36 +110,36 @@ count-on-requires c κs = search needs
 
 -- the state after each store, where the ways from its test meet
 client-is : (c : tie.Joined4)
-    → let m = at-start (at-formed (at-topic (at-payload (c .before .before)))) .args .m in
-    let d = c .before .before .plan-for .result .seen in
+    → let m = handed (at-plan c) in
+    let d = at-plan c .plan-for .result .seen in
     c .if4 .next ≡ withClients m (storedAt 16 (m .«connect_windows») (d .at) (d .entry))
 client-is c =
-    let m = at-start (at-formed (at-topic (at-payload (c .before .before)))) .args .m in
-    let d = c .before .before .plan-for .result .seen in
+    let m = handed (at-plan c) in
+    let d = at-plan c .plan-for .result .seen in
     ⊎-elim
     (λ w. stored-yes (withClients m) 16 (m .«connect_windows») (d .at) (d .entry) (w .0 .taken) (w .2))
     (λ w. stored-no (withClients m) 16 (m .«connect_windows») (d .at) (d .entry) (w .0 .left) (w .1))
     (c .if4 .came)
 
 bucket-is : (c : tie.Joined5)
-    → let m = c .before .before .if4 .next in
-    let d = c .before .before .before .before .plan-for .result .spent in
+    → let m = at-client c .if4 .next in
+    let d = at-plan (at-client c) .plan-for .result .spent in
     c .if5 .next ≡ withBuckets m (storedAt 32 (m .«rate_buckets») (d .at) (d .bucket))
 bucket-is c =
-    let m = c .before .before .if4 .next in
-    let d = c .before .before .before .before .plan-for .result .spent in
+    let m = at-client c .if4 .next in
+    let d = at-plan (at-client c) .plan-for .result .spent in
     ⊎-elim
     (λ w. stored-yes (withBuckets m) 32 (m .«rate_buckets») (d .at) (d .bucket) (w .0 .taken) (w .2))
     (λ w. stored-no (withBuckets m) 32 (m .«rate_buckets») (d .at) (d .bucket) (w .0 .left) (w .1))
     (c .if5 .came)
 
 tracker-is : (c : tie.Joined6)
-    → let m = c .before .before .if5 .next in
-    let d = c .before .before .before .before .before .before .plan-for .result .fed in
+    → let m = at-bucket c .if5 .next in
+    let d = at-plan (at-client (at-bucket c)) .plan-for .result .fed in
     c .if6 .next ≡ withTrackers m (storedAt 16 (m .«ewma_trackers») (d .at) (d .tracker))
 tracker-is c =
-    let m = c .before .before .if5 .next in
-    let d = c .before .before .before .before .before .before .plan-for .result .fed in
+    let m = at-bucket c .if5 .next in
+    let d = at-plan (at-client (at-bucket c)) .plan-for .result .fed in
     ⊎-elim
     (λ w. stored-yes (withTrackers m) 16 (m .«ewma_trackers») (d .at) (d .tracker) (w .0 .taken) (w .2))
     (λ w. stored-no (withTrackers m) 16 (m .«ewma_trackers») (d .at) (d .tracker) (w .0 .left) (w .1))
@@ -131,9 +148,9 @@ tracker-is c =
 returns-4 : tie.Need-returns-4
 returns-4 c =
     let tracker = c .before .before .before in
-    let bucket = tracker .before .before in
-    let client = bucket .before .before in
-    let plan = client .before .before in
+    let bucket = at-bucket tracker in
+    let client = at-client bucket in
+    let plan = at-plan client in
     let payload = at-payload plan in
     let topic = at-topic payload in
     let formed = at-formed topic in
