@@ -12,7 +12,8 @@ use Rattle.lines.specs.ReadHex.{unhex}
 use Rattle.lines.specs.Span.{part}
 use Rattle.lines.proofs.HexRound.{unhex-length}
 use Rattle.lines.proofs.read.KeptLaws.{kept-bytes, kept-long}
-use Rattle.trace.specs.Groups.{rule4, ruleAt, patternIn, patternKept, message7, messageAt, topicIn, payloadIn, topic1, topic2, topic3, topic4, topicKept, payload1, payload2, payload3, payload4, payload5, payload6, payloadKept}
+use Rattle.trace.specs.Groups.{rule4, ruleAt, patternIn, patternKept, message7, messageAt, topicIn, topic1, topic2, topic3, topic4, topicKept}
+use Rattle.trace.specs.Groups.{payloadIn, payload1, payload2, payload3, payload4, payload5, payload6, payloadKept}
 use Rattle.trace.specs.declared.groups.MessageLines.{MessageLines}
 use Rattle.trace.specs.declared.groups.RuleLines.{RuleLines}
 use Rattle.trace.proofs.LineBounds.{hex-value}
