@@ -20,6 +20,8 @@ use monitor::alerts::SecurityAlert;
 use monitor::alerts::severity_number;
 use monitor::inspection::Inspected;
 use monitor::message::MqttMessage;
+use monitor::message::PAYLOAD_MAX;
+use monitor::message::TOPIC_MAX;
 use monitor::message::type_at;
 use monitor::state::MqttMonitor;
 use monitor::state::Outcome;
@@ -48,9 +50,9 @@ fn message(q: &[u8], topic_len: u8, payload_inspectable_len: u16) -> MqttMessage
 
 // Inspects the message of a line.
 fn inspect(m: MqttMonitor, q: &[u8], claimed: bool) -> Inspected {
-    let mut topic = [0u8; 128];
+    let mut topic = [0u8; TOPIC_MAX];
     let topic_len = unhex(q, 5, &mut topic).count;
-    let mut payload = [0u8; 256];
+    let mut payload = [0u8; PAYLOAD_MAX];
     let payload_len = unhex(q, 7, &mut payload).count;
     if claimed {
         let msg = message(q, number8(q, 8), number16(q, 9));

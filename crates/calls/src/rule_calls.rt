@@ -10,13 +10,14 @@ use cut::args::is;
 use cut::args::place;
 use cut::args::unhex;
 use cut::upto;
+use monitor::message::TOPIC_MAX;
 use monitor::rule_calls;
 use monitor::state::Called;
 use monitor::state::MqttMonitor;
 
 // Patterns of up to 128 bytes can be asked for, as in a trace.
 fn add_rule(m: MqttMonitor, q: &[u8]) -> Called {
-    let mut pattern = [0u8; 128];
+    let mut pattern = [0u8; TOPIC_MAX];
     let n = unhex(q, 1, &mut pattern).count;
     rule_calls::add_rule(
         m,

@@ -9,6 +9,7 @@ use cut::args::number;
 use cut::args::unhex;
 use cut::upto;
 use monitor::calls;
+use monitor::message::TOPIC_MAX;
 use monitor::state::Called;
 use monitor::state::MqttMonitor;
 
@@ -21,7 +22,7 @@ fn say_counters(m: MqttMonitor) {
 
 // Removes a topic's bucket or tracker.
 fn remove(m: MqttMonitor, name: &[u8], q: &[u8]) -> Called {
-    let mut topic = [0u8; 128];
+    let mut topic = [0u8; TOPIC_MAX];
     let n = unhex(q, 1, &mut topic).count;
     if is(name, b"remove_rate_bucket") {
         return calls::remove_rate_bucket(m, upto(&topic, n));

@@ -5,9 +5,9 @@ use mathlib.Core.Bool.{Bool, true, false, cond, _&&_}
 use mathlib.Core.List.{List, []}
 use lib.ListN.{length, take, drop}
 use lib.Dec.{eqb, ltb}
+use Rattle.slices.specs.Bytes.{bytes, findByte}
 use Rattle.lines.specs.declared.value.Number.{Number}
 use Rattle.lines.specs.declared.value.Number.the-variants.{Value, Bad}
-use Rattle.slices.specs.Bytes.{bytes, findByte}
 use Rattle.lines.specs.ReadDecimal.{decimalOf}
 use Rattle.lines.specs.ReadHex.{hexRefusal, hexCount}
 use Rattle.lines.specs.ReadWord.{wordOf}

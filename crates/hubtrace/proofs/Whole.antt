@@ -7,10 +7,10 @@ use native.Mathlib.Omega.{arith}
 use borrow.Author.Tests.{le-leb}
 use lib.ListN.{length, take, drop}
 use lib.Seq.{sets, sets-eq, length-sets, take-append-seam, length-take-le}
-use Rattle.io.specs.Counts.{Counts}
-use Rattle.io.proofs.Counting.{counts}
 use Rattle.trace.specs.Trace.{traceText, traceEnd, traceKept, enough}
 use Rattle.trace.proofs.Bound.{trace-enough}
+use Rattle.io.specs.Counts.{Counts}
+use Rattle.io.proofs.Counting.{counts}
 use Rattle.hubtrace.specs.Answered.{answerTo}
 use Rattle.hubtrace.specs.Turns.{DoneWithin}
 use Rattle.hubtrace.specs.declared.turn.Done.{Done}

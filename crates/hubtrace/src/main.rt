@@ -11,8 +11,8 @@ use trace::run;
 use turn::Done;
 ghost use mathlib.Core.Path.{_≡_};
 ghost use lib.ListN.{length, take};
-ghost use Rattle.io.specs.Counts.{Counts};
 ghost use Rattle.trace.specs.Trace.{enough};
+ghost use Rattle.io.specs.Counts.{Counts};
 ghost use Rattle.hubtrace.specs.Answered.{answerTo};
 ghost use Rattle.hubtrace.specs.Turns.{DoneWithin};
 

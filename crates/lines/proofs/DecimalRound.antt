@@ -9,13 +9,13 @@ use lib.Dec.{eqb, leb}
 use lib.ListN.{getD, List·getD-append}
 use lib.Seq.{append-snoc}
 use borrow.Author.Tests.{le-leb, leb-true, ne-eqb, eqb-false, not-true}
-use Rattle.lines.specs.declared.value.Number.the-variants.{Value, Bad}
-use Rattle.lines.specs.Decimal.{decimal}
 use Rattle.laws.specs.Lists.{every}
-use Rattle.lines.specs.ReadDecimal.{isDigit, withDigit, digitsAfter, noSpareZero, decimalOf}
 use Rattle.laws.proofs.Cases.{by, by-le}
 use Rattle.laws.proofs.Tests.{never, both}
 use Rattle.laws.proofs.Every.{every-both, every-join}
+use Rattle.lines.specs.declared.value.Number.the-variants.{Value, Bad}
+use Rattle.lines.specs.Decimal.{decimal}
+use Rattle.lines.specs.ReadDecimal.{isDigit, withDigit, digitsAfter, noSpareZero, decimalOf}
 use Rattle.lines.proofs.put.DecimalLaws.{decimal-one, decimal-more, decimal-tenth, decimal-some}
 use Rattle.lines.proofs.value.DecimalLaws.{spare-more}
 

@@ -7,11 +7,11 @@ use mathlib.Core.List.{List, [], _∷_}
 use native.Mathlib.Omega.{arith}
 use lib.ListN.{length, getD}
 use borrow.Author.Tests.{le-leb, lt-ltb, le-ltb}
-use Rattle.lines.specs.Hex.{hexDigit, hexText}
 use Rattle.laws.specs.Lists.{every}
-use Rattle.lines.specs.ReadHex.{isHex, hexValue, hexCount, hexRefusal, unhex}
 use Rattle.laws.proofs.Cases.{by-le}
 use Rattle.laws.proofs.Every.{every-both}
+use Rattle.lines.specs.Hex.{hexDigit, hexText}
+use Rattle.lines.specs.ReadHex.{isHex, hexValue, hexCount, hexRefusal, unhex}
 use Rattle.lines.proofs.put.HexLaws.{hex-length}
 use Rattle.lines.proofs.value.HexLaws.{hex-kinds, hex-taken, hex-fits}
 

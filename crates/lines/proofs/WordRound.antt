@@ -8,13 +8,13 @@ use native.Mathlib.Omega.{arith}
 use lib.Dec.{ltb}
 use lib.ListN.{length, getD}
 use borrow.Author.Tests.{eqb-true, lt-ltb, ltb-true}
-use Rattle.lines.specs.declared.value.Number.the-variants.{Value, Bad}
-use Rattle.lines.specs.Word.{wordsOf, wordText}
-use Rattle.slices.specs.Bytes.{same}
-use Rattle.slices.proofs.bytes.SameLaws.{same-true, same-refl}
-use Rattle.lines.specs.ReadWord.{wordIndex, wordOf, different}
 use Rattle.laws.proofs.Cases.{by}
 use Rattle.laws.proofs.Tests.{both}
+use Rattle.slices.specs.Bytes.{same}
+use Rattle.slices.proofs.bytes.SameLaws.{same-true, same-refl}
+use Rattle.lines.specs.declared.value.Number.the-variants.{Value, Bad}
+use Rattle.lines.specs.Word.{wordsOf, wordText}
+use Rattle.lines.specs.ReadWord.{wordIndex, wordOf, different}
 
 -- a word of a list is found at its place or before
 found-by : (ws : List (List ℕ)) (k : ℕ) → k < length ws → wordIndex ws (getD ws k []) ≤ k

@@ -5,11 +5,11 @@ use mathlib.Core.Bool.{cond}
 use mathlib.Core.List.{List}
 use lib.ListN.{length}
 use lib.Dec.{eqb, leb}
+use Rattle.slices.specs.Bytes.{placeIn, begins}
 use Rattle.lines.specs.declared.held.Span.{Span}
 use Rattle.lines.specs.declared.read.Field.{Field}
 use Rattle.lines.specs.declared.value.Number.{Number}
 use Rattle.lines.specs.declared.value.Number.the-variants.{Value, Bad}
-use Rattle.slices.specs.Bytes.{placeIn, begins}
 use Rattle.lines.specs.Span.{spanOf, part}
 use Rattle.lines.specs.ReadDecimal.{decimalOf}
 use Rattle.lines.specs.ReadHex.{hexCount, hexRefusal, hexInto}

@@ -5,9 +5,9 @@ use Prim.Native.Char.{code}
 use mathlib.Core.Bool.{Bool, true, false, cond, not, _&&_}
 use mathlib.Core.List.{List, [], _∷_}
 use lib.Dec.{eqb, leb}
+use Rattle.laws.specs.Lists.{every}
 use Rattle.lines.specs.declared.value.Number.{Number}
 use Rattle.lines.specs.declared.value.Number.the-variants.{Value, Bad}
-use Rattle.laws.specs.Lists.{every}
 
 -- `0` to `9`
 unfoldable pub isDigit : ℕ → Bool

@@ -4,9 +4,9 @@ use mathlib.Core.Bool.{Bool, true, false, cond, _&&_}
 use mathlib.Core.List.{List, [], _∷_}
 use lib.ListN.{length}
 use lib.Dec.{eqb, ltb}
+use Rattle.slices.specs.Bytes.{same}
 use Rattle.lines.specs.declared.value.Number.{Number}
 use Rattle.lines.specs.declared.value.Number.the-variants.{Value, Bad}
-use Rattle.slices.specs.Bytes.{same}
 use Rattle.lines.specs.Word.{wordsOf}
 
 -- the place of the first word that `l` is, or the count of words where it is none

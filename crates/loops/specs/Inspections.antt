@@ -6,9 +6,9 @@ use mathlib.Core.List.{List, _∷_, _++_}
 use Prim.Native.Nat.{ℕ, zero, suc, _+_, _*_, _%_}
 use lib.Dec.{ltb, leb}
 use lib.ListN.{length}
-use Rattle.tables.specs.Rules.{ruleMatches}
 use Rattle.slices.specs.Bytes.{bytes}
 use Rattle.lines.specs.Span.{part}
+use Rattle.tables.specs.Rules.{ruleMatches}
 use Rattle.tables.specs.declared.rules.MqttQoS.the-variants.{AtLeastOnce}
 use Rattle.tables.specs.declared.rules.QosPolicy.the-variants.{MinQoS}
 use Rattle.tables.specs.declared.rules.TopicAction.the-variants.{Allow, Block}

@@ -4,8 +4,8 @@ use mathlib.Core.List.{List}
 use mathlib.Core.Path.{_≡_, sym, ap, _∙_}
 use Prim.Native.Nat.{ℕ}
 use lib.ListN.{take}
-use Rattle.monitor.specs.Alerts.{kindsOf, denies, kindsAmong}
 use Rattle.laws.specs.Lists.{some}
+use Rattle.monitor.specs.Alerts.{kindsOf, denies, kindsAmong}
 use Rattle.monitor.specs.Inspect.{inspectWith}
 use Rattle.monitor.specs.Message.{usedTopic, usedPayload}
 use Rattle.monitor.specs.Plan.{planFrom, planOf, findingsIn}

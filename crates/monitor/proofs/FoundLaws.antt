@@ -7,9 +7,9 @@ use Prim.Native.Nat.{ℕ}
 use borrow.Author.Tests.{eqb-true}
 use lib.Dec.{eqb, ltb}
 use Rattle.laws.specs.Lists.{none}
-use Rattle.topics.specs.Names.{isBroad, startsWithDollar, badPublish}
 use Rattle.laws.proofs.Cases.{whichever}
 use Rattle.laws.proofs.Tests.{both}
+use Rattle.topics.specs.Names.{isBroad, startsWithDollar, badPublish}
 use Rattle.tables.specs.declared.buckets.RateCheckResult.{RateCheckResult}
 use Rattle.tables.specs.declared.buckets.RateCheckResult.the-variants.{Allowed, Limited, EvictedAndDenied}
 use Rattle.tables.specs.declared.buckets.RateDecision.{RateDecision}

@@ -10,8 +10,8 @@ use lib.Dec.{eqb, ltb}
 use lib.ListN.{length, take}
 use lib.Seq.{set-out}
 use Rattle.laws.specs.Lists.{none}
-use Rattle.topics.specs.Names.{isBroad, startsWithDollar, badPublish}
 use Rattle.laws.proofs.Cases.{by}
+use Rattle.topics.specs.Names.{isBroad, startsWithDollar, badPublish}
 use Rattle.tables.specs.Buckets.{decide}
 use Rattle.tables.specs.Identity.{idOf}
 use Rattle.tables.specs.declared.buckets.RateBucket.{RateBucket}

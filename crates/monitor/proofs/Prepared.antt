@@ -9,8 +9,8 @@ use Rattle.tables.specs.Identity.{idOf}
 use Rattle.tables.specs.Scan.{find}
 use Rattle.tables.specs.Trackers.{removedTracker}
 use Rattle.tables.specs.declared.identity.Id.{Id}
-use Rattle.monitor.specs.Calls.{fresh, tested, addRule, removeRule, swapRules, clearRules, setStorm, removeBucket, removeTracker, resetState}
 use Rattle.tables.specs.Rules.{rulePlan}
+use Rattle.monitor.specs.Calls.{fresh, tested, addRule, removeRule, swapRules, clearRules, setStorm, removeBucket, removeTracker, resetState}
 use Rattle.monitor.specs.Prepared.{Prepared, made, anew, rule, removed, swapped, cleared, storm, bucket, tracker}
 use Rattle.monitor.specs.Sound.{Sound}
 use Rattle.monitor.specs.State.{wellFormed}

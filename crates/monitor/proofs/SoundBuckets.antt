@@ -7,12 +7,12 @@ use Prim.Native.Nat.{ℕ, _≤_, _<_}
 use native.Mathlib.Omega.{arith}
 use lib.ListN.{length, set, replicate, length-set, getD-replicate}
 use Rattle.laws.proofs.Tests.{both}
+use Rattle.laws.proofs.Lists.{each, pairs}
 use Rattle.tables.specs.Buckets.{holdsBucket, spend, made, decide, noBucket, emptyBucket}
 use Rattle.tables.specs.Identity.{idOf, isOf}
 use Rattle.tables.specs.declared.buckets.RateBucket.{RateBucket}
 use Rattle.tables.proofs.buckets.BucketLaws.{keeps}
 use Rattle.tables.proofs.buckets.StepLaws.{bucketAt, stored, first, Absent, Step, hit, put, step}
-use Rattle.laws.proofs.Lists.{each, pairs}
 use Rattle.monitor.specs.Sound.{sameId, SoundBuckets}
 use Rattle.monitor.proofs.SoundIds.{prefix-long, new-first, new-last}
 

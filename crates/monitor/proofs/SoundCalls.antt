@@ -7,8 +7,10 @@ use Prim.Native.Nat.{ℕ}
 use native.Mathlib.Omega.{arith}
 use borrow.Author.Tests.{ltb-true, eqb-true}
 use lib.Dec.{eqb, ltb}
+use Rattle.laws.specs.Lists.{every}
 use Rattle.laws.proofs.Tests.{both}
 use Rattle.laws.proofs.Cases.{by}
+use Rattle.laws.proofs.Every.{every-set, every-first, first-every}
 use Rattle.tables.specs.Buckets.{bucketFine, emptyBucket, removedBucket}
 use Rattle.tables.specs.Identity.{idOf}
 use Rattle.tables.specs.Rules.{equalRule, ruleFine, noRule, rulePlan}
@@ -20,13 +22,11 @@ use Rattle.tables.specs.declared.rules.TopicAction.{TopicAction}
 use Rattle.tables.specs.declared.rules.TopicRule.{TopicRule}
 use Rattle.tables.specs.declared.trackers.EwmaTracker.{EwmaTracker}
 use Rattle.tables.specs.declared.windows.ClientStormEntry.{ClientStormEntry}
+use Rattle.tables.proofs.rules.PlanLaws.{plan-cases}
 use Rattle.monitor.specs.Calls.{fresh, tested, withRule, addRule, removeRule, swapRules, clearRules, setStorm, removeBucket, removeTracker, resetState}
 use Rattle.monitor.specs.Sound.{SoundBuckets, SoundWindows, SoundTrackers, Sound}
-use Rattle.tables.proofs.rules.PlanLaws.{plan-cases}
-use Rattle.laws.specs.Lists.{every}
 use Rattle.monitor.specs.State.{wellFormed, withRules, withSettings, withTables, withCounters, ended}
 use Rattle.monitor.specs.declared.state.MqttMonitor.{MqttMonitor}
-use Rattle.laws.proofs.Every.{every-set, every-first, first-every}
 use Rattle.monitor.proofs.state.FormedLaws.{formed-parts, parts-formed}
 use Rattle.monitor.proofs.SoundBuckets.{buckets-fresh, bucket-removed}
 use Rattle.monitor.proofs.SoundMoves.{rule-removed, rules-exchanged}

@@ -5,9 +5,9 @@ use mathlib.Core.List.{List}
 use Prim.Native.Nat.{ℕ}
 use lib.Dec.{eqb, ltb}
 use lib.ListN.{take}
+use Rattle.laws.proofs.Cases.{by}
 use Rattle.topics.specs.Hashes.{clientHashes}
 use Rattle.topics.specs.Payload.{payloadHash}
-use Rattle.laws.proofs.Cases.{by}
 use Rattle.tables.specs.Identity.{idOf}
 use Rattle.monitor.specs.Inspect.{storedAt, applied, inspectRefusal, inspectWith}
 use Rattle.monitor.specs.Message.{typeNumber, usedTopic, usedPayload}

@@ -9,8 +9,8 @@ use borrow.Author.Tests.{ltb-true, ltb-false, eqb-true, eqb-false}
 use lib.Dec.{eqb, ltb}
 use lib.ListN.{length, getD, take, drop, set, replicate, length-append, length-take, length-drop, length-set, List·getD-append}
 use lib.Seq.{getD-take, getD-drop, getD-append-add, getD-set-same, getD-set-other}
-use Rattle.slices.specs.Bytes.{same}
 use Rattle.laws.proofs.Cases.{by}
+use Rattle.slices.specs.Bytes.{same}
 use Rattle.slices.proofs.bytes.SameLaws.{same-sym}
 use Rattle.tables.specs.Rules.{patternOf, emptyRule, noRule}
 use Rattle.tables.specs.declared.rules.TopicRule.{TopicRule}

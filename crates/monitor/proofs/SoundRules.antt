@@ -8,6 +8,7 @@ use native.Mathlib.Omega.{arith}
 use borrow.Author.Tests.{le-leb}
 use lib.ListN.{length, getD, take, drop, set, replicate, length-append, length-take, length-set, length-replicate, getD-replicate}
 use lib.Seq.{take-at, take-all, drop-at, getD-take}
+use Rattle.laws.proofs.Lists.{each, pairs}
 use Rattle.slices.specs.Bytes.{same}
 use Rattle.topics.specs.Patterns.{patternRefusal}
 use Rattle.topics.proofs.patterns.PatternLaws.{accepted-length}
@@ -17,7 +18,6 @@ use Rattle.tables.specs.declared.rules.TopicAction.{TopicAction}
 use Rattle.tables.specs.declared.rules.TopicRule.{TopicRule}
 use Rattle.tables.proofs.rules.RuleLaws.{fine-says}
 use Rattle.tables.proofs.ScanLaws.{find-none}
-use Rattle.laws.proofs.Lists.{each, pairs}
 use Rattle.monitor.specs.Sound.{SoundRules}
 
 -- the rule at a place

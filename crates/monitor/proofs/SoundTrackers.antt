@@ -7,6 +7,7 @@ use Prim.Native.Nat.{ℕ, _<_}
 use native.Mathlib.Omega.{arith}
 use lib.ListN.{length, getD, set, replicate, length-set, getD-replicate}
 use Rattle.laws.proofs.Tests.{both}
+use Rattle.laws.proofs.Lists.{each, pairs}
 use Rattle.tables.specs.Identity.{idOf, isOf}
 use Rattle.tables.specs.Scan.{seat}
 use Rattle.tables.specs.Trackers.{holdsTracker, fed, freshTracker, feed, feedAt, noTracker, emptyTracker}
@@ -14,10 +15,9 @@ use Rattle.tables.specs.declared.trackers.EwmaTracker.{EwmaTracker}
 use Rattle.tables.specs.declared.trackers.TrackerDecision.{TrackerDecision}
 use Rattle.tables.proofs.ScanLaws.{seat-lt}
 use Rattle.tables.proofs.trackers.TrackerLaws.{isFree, lastUpdate}
-use Rattle.laws.proofs.Lists.{each, pairs}
+use Rattle.tables.proofs.LookupLaws.{looked-up}
 use Rattle.monitor.specs.Sound.{sameId, SoundTrackers}
 use Rattle.monitor.proofs.SoundIds.{prefix-long, new-first, new-last}
-use Rattle.tables.proofs.LookupLaws.{looked-up}
 
 -- two trackers are not both live with one identity
 abbrev Apart : EwmaTracker → EwmaTracker → Type 0

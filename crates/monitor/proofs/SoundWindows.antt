@@ -7,17 +7,17 @@ use native.Mathlib.Omega.{arith}
 use borrow.Author.Tests.{eqb-true, eq-eqb}
 use lib.Dec.{eqb}
 use lib.ListN.{length, getD, set, replicate, length-set, getD-replicate}
-use Rattle.topics.specs.declared.hashes.ClientHashes.{ClientHashes}
 use Rattle.laws.proofs.Tests.{both, fails}
+use Rattle.laws.proofs.Lists.{each, pairs}
+use Rattle.topics.specs.declared.hashes.ClientHashes.{ClientHashes}
 use Rattle.tables.specs.Scan.{seat}
 use Rattle.tables.specs.Windows.{holdsClient, recorded, freshWindow, connect, connectAt, noWindow, emptyWindow}
 use Rattle.tables.specs.declared.windows.ClientStormEntry.{ClientStormEntry}
 use Rattle.tables.specs.declared.windows.ConnectDecision.{ConnectDecision}
 use Rattle.tables.proofs.ScanLaws.{seat-lt}
 use Rattle.tables.proofs.windows.WindowLaws.{isFree, lastSeen}
-use Rattle.laws.proofs.Lists.{each, pairs}
-use Rattle.monitor.specs.Sound.{sameClient, SoundWindows}
 use Rattle.tables.proofs.LookupLaws.{looked-up}
+use Rattle.monitor.specs.Sound.{sameClient, SoundWindows}
 
 -- two windows are not both live with one client
 abbrev Apart : ClientStormEntry → ClientStormEntry → Type 0

@@ -7,8 +7,8 @@ use Prim.Native.Nat.{ℕ, _+_, _≤_, min}
 use native.Mathlib.Omega.{arith}
 use lib.Dec.{eqb}
 use lib.ListN.{take}
-use Rattle.topics.specs.Payload.{payloadHash}
 use Rattle.laws.proofs.Cases.{by}
+use Rattle.topics.specs.Payload.{payloadHash}
 use Rattle.monitor.specs.Alerts.{kindsOf}
 use Rattle.monitor.specs.Inspect.{applied, inspectRefusal, inspectWith}
 use Rattle.monitor.specs.Message.{usedTopic, usedPayload}

@@ -9,10 +9,10 @@ use borrow.Author.Tests.{ltb-true, ltb-false, eqb-true}
 use lib.Dec.{eqb, ltb}
 use lib.ListN.{length, getD, take, drop, set, replicate, length-set, length-take, getD-replicate, drop-of-length-le}
 use lib.Seq.{drop-at, drop-drop, drop-set-lt}
-use Rattle.topics.specs.Hashes.{clientHashes}
-use Rattle.topics.specs.declared.hashes.ClientHashes.{ClientHashes}
 use Rattle.laws.proofs.Cases.{by}
 use Rattle.laws.proofs.Lists.{each}
+use Rattle.topics.specs.Hashes.{clientHashes}
+use Rattle.topics.specs.declared.hashes.ClientHashes.{ClientHashes}
 use Rattle.tables.specs.Buckets.{noBucket, emptyBucket, decide, removedBucket}
 use Rattle.tables.specs.Identity.{idOf, prefixOf}
 use Rattle.tables.specs.Scan.{seat}

@@ -14,8 +14,8 @@ use Rattle.tables.specs.Windows.{emptyWindow}
 use Rattle.tables.specs.declared.rules.QosPolicy.{QosPolicy}
 use Rattle.tables.specs.declared.rules.TopicAction.{TopicAction}
 use Rattle.tables.specs.declared.rules.TopicRule.{TopicRule}
-use Rattle.monitor.specs.State.{wellFormed, withRules, withSettings, withTables, withCounters, ended}
 use Rattle.tables.specs.declared.rules.RulePlan.{RulePlan}
+use Rattle.monitor.specs.State.{wellFormed, withRules, withSettings, withTables, withCounters, ended}
 use Rattle.monitor.specs.declared.state.Called.{Called}
 use Rattle.monitor.specs.declared.state.MqttMonitor.{MqttMonitor}
 use Rattle.monitor.specs.declared.state.Outcome.{Outcome}

@@ -6,8 +6,8 @@ use mathlib.Core.Bool.{Bool, not}
 use mathlib.Core.List.{List}
 use Prim.Native.Nat.{ℕ, _≤_, min}
 use lib.ListN.{take}
-use Rattle.monitor.specs.Alerts.{kindsOf, denies}
 use Rattle.laws.specs.Lists.{some}
+use Rattle.monitor.specs.Alerts.{kindsOf, denies}
 use Rattle.monitor.specs.Inspect.{inspectRefusal}
 use Rattle.monitor.specs.Message.{usedTopic, usedPayload}
 use Rattle.monitor.specs.Plan.{findingsIn}

@@ -14,8 +14,8 @@ use topics::names::starts_with_dollar;
 ghost use mathlib.Core.Bool.{cond, not, _&&_};
 ghost use mathlib.Core.Path.{_≡_};
 ghost use lib.Dec.{eqb, ltb};
-ghost use Rattle.tables.specs.Rules.{ruleMatches};
 ghost use Rattle.topics.specs.Names.{isBroad, startsWithDollar, badPublish};
+ghost use Rattle.tables.specs.Rules.{ruleMatches};
 ghost use Rattle.monitor.specs.Message.{typeNumber};
 ghost use Rattle.monitor.specs.Gate.{isBlock, ruledBy, ruledByDefault, rulingOf, stageOf, endsEarly, deniedBy, goesOn, gateAfter, isTopical, gateOf};
 

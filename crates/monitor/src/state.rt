@@ -20,11 +20,11 @@ use tables::windows::window_fine;
 ghost use mathlib.Core.Path.{_≡_};
 ghost use Prim.Native.Nat.{_≤_};
 ghost use lib.ListN.{take, replicate};
+ghost use Rattle.laws.specs.Lists.{every};
 ghost use Rattle.tables.specs.Buckets.{bucketFine, emptyBucket};
 ghost use Rattle.tables.specs.Rules.{ruleFine, emptyRule};
 ghost use Rattle.tables.specs.Trackers.{trackerFine, emptyTracker};
 ghost use Rattle.tables.specs.Windows.{windowFine, emptyWindow};
-ghost use Rattle.laws.specs.Lists.{every};
 ghost use Rattle.monitor.specs.State.{wellFormed};
 
 pub struct MqttMonitor {

@@ -5,8 +5,8 @@ use mathlib.Core.List.{List, [], _++_}
 use Prim.Native.Nat.{ℕ, _-_, _%_, min}
 use lib.Dec.{eqb}
 use lib.ListN.{length, take, replicate}
-use Rattle.topics.specs.Hashes.{fnv1a, djb2, suffixHash}
 use Rattle.slices.specs.Bytes.{same}
+use Rattle.topics.specs.Hashes.{fnv1a, djb2, suffixHash}
 use Rattle.tables.specs.declared.identity.Id.{Id}
 
 -- the first 32 bytes of a topic, zeros after its end

@@ -1,4 +1,4 @@
-// Topic rules (document 01, "Numbers handed back", "Order inside one inspection"; 000 `TopicRule`, `check_qos_policy`, `validate_rules`).
+// Topic rules (document 01, "Numbers handed back", "Order inside one inspection"; 000 `TopicRule`, `check_qos_policy`, `add_rule`, `validate_rules`).
 use slices::bytes::same_bytes;
 use topics::matching::matches_with;
 use topics::patterns::PATTERN_MAX;

@@ -1,7 +1,6 @@
 -- One answer for every public function of `cut`, and nothing asked of its caller (specs/One.antt). Where a part of the text is handed back, its bytes are meant. Assumes nothing.
 use mathlib.Core.Path.{refl, sym, _∙_}
 use denote.Ref.{now}
-use Rattle.theorems.specs.One.{Any, One, OneLeft, OneRead}
 use Rattle.cut.proofs.before as before
 use Rattle.cut.proofs.before.Reads as before-reads
 use Rattle.cut.proofs.after as after
@@ -28,6 +27,7 @@ use Rattle.cut.proofs.args.unhex as args-unhex
 use Rattle.cut.proofs.args.unhex.Reads as args-unhex-reads
 use Rattle.cut.proofs.swap.swap as swap-swap
 use Rattle.cut.proofs.swap.swap.Reads as swap-swap-reads
+use Rattle.theorems.specs.One.{Any, One, OneLeft, OneRead}
 
 pub one-before : OneRead before.ended before-reads.Post (λ κs x. now x)
 one-before κs a x y e f p q = p ∙ sym q

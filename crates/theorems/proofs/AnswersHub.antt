@@ -1,7 +1,6 @@
 -- One answer for every public function of `hub`, and nothing asked of its caller (specs/One.antt). Assumes nothing.
 use mathlib.Core.Path.{refl, sym, _∙_}
 use denote.Ref.{now}
-use Rattle.theorems.specs.One.{Any, One, OneLeft}
 use Rattle.hub.proofs.hashing.hub_fnv1a_hash as hashing-hub-fnv1a-hash
 use Rattle.hub.proofs.hashing.hub_fnv1a_hash.Reads as hashing-hub-fnv1a-hash-reads
 use Rattle.hub.proofs.hashing.hub_djb2_hash as hashing-hub-djb2-hash
@@ -30,6 +29,7 @@ use Rattle.hub.proofs.tracing.hub_trace as tracing-hub-trace
 use Rattle.hub.proofs.tracing.hub_trace.Reads as tracing-hub-trace-reads
 use Rattle.hub.proofs.tracing.hub_trace_length as tracing-hub-trace-length
 use Rattle.hub.proofs.tracing.hub_trace_length.Reads as tracing-hub-trace-length-reads
+use Rattle.theorems.specs.One.{Any, One, OneLeft}
 
 pub one-hashing-hub-fnv1a-hash : One hashing-hub-fnv1a-hash.ended hashing-hub-fnv1a-hash-reads.Post
 one-hashing-hub-fnv1a-hash κs a x y e f p q = p ∙ sym q

@@ -7,7 +7,6 @@ use Prim.Native.Nat.{ℕ}
 use denote.Ref.{now}
 use Rattle.lines.specs.Wrote.{Wrote}
 use Rattle.lines.specs.Span.{spanOf}
-use Rattle.theorems.specs.One.{Out, Any, One, OneLeft, Says, AsksNothing}
 use Rattle.lines.proofs.held.span_at as held-span-at
 use Rattle.lines.proofs.held.span_at.Reads as held-span-at-reads
 use Rattle.lines.proofs.held.span_from as held-span-from
@@ -60,6 +59,7 @@ use Rattle.lines.proofs.value.hex as value-hex
 use Rattle.lines.proofs.value.hex.Reads as value-hex-reads
 use Rattle.lines.proofs.held.new as held-new
 use Rattle.lines.proofs.held.line_here as held-line-here
+use Rattle.theorems.specs.One.{Out, Any, One, OneLeft, Says, AsksNothing}
 
 -- what `Wrote` says of a place and a buffer, no other place and buffer meet
 pub wrote-once : {d e f : List ℕ} {at x y : ℕ} {t : List ℕ} → Wrote d e at t x → Wrote d f at t y → (x ≡ y) × (e ≡ f)

@@ -1,6 +1,5 @@
 -- One answer for every public function of `monitor`, and nothing asked of its caller (specs/One.antt). Assumes nothing.
 use mathlib.Core.Path.{sym, _∙_}
-use Rattle.theorems.specs.One.{Any, One}
 use Rattle.monitor.proofs.alerts.severity_number as alerts-severity-number
 use Rattle.monitor.proofs.alerts.severity_number.Reads as alerts-severity-number-reads
 use Rattle.monitor.proofs.alerts.severity_of as alerts-severity-of
@@ -61,6 +60,7 @@ use Rattle.monitor.proofs.state.well_formed as state-well-formed
 use Rattle.monitor.proofs.state.well_formed.Reads as state-well-formed-reads
 use Rattle.monitor.proofs.message.type_at as message-type-at
 use Rattle.monitor.proofs.message.type_at.Reads as message-type-at-reads
+use Rattle.theorems.specs.One.{Any, One}
 
 pub one-alerts-severity-number : One alerts-severity-number.ended alerts-severity-number-reads.Post
 one-alerts-severity-number κs a x y e f p q = p ∙ sym q

@@ -1,6 +1,5 @@
 -- One answer for every public function of `slices`, and nothing asked of its caller (specs/One.antt). Assumes nothing.
 use mathlib.Core.Path.{sym, _∙_}
-use Rattle.theorems.specs.One.{Any, One}
 use Rattle.slices.proofs.bytes.same_bytes as bytes-same-bytes
 use Rattle.slices.proofs.bytes.same_bytes.Reads as bytes-same-bytes-reads
 use Rattle.slices.proofs.bytes.starts_with as bytes-starts-with
@@ -11,6 +10,7 @@ use Rattle.slices.proofs.bytes.count_byte as bytes-count-byte
 use Rattle.slices.proofs.bytes.count_byte.Reads as bytes-count-byte-reads
 use Rattle.slices.proofs.bytes.find_byte as bytes-find-byte
 use Rattle.slices.proofs.bytes.find_byte.Reads as bytes-find-byte-reads
+use Rattle.theorems.specs.One.{Any, One}
 
 pub one-bytes-same-bytes : One bytes-same-bytes.ended bytes-same-bytes-reads.Post
 one-bytes-same-bytes κs a x y e f p q = p ∙ sym q

@@ -3,7 +3,6 @@
 use mathlib.Core.Path.{_≡_, refl, sym, _∙_}
 use denote.Ref.{now}
 use Rattle.tables.specs.Buckets.{spend}
-use Rattle.theorems.specs.One.{Out, Any, One, OneLeft, Says, AsksNothing}
 use Rattle.tables.proofs.buckets.consume as buckets-consume
 use Rattle.tables.proofs.buckets.consume.Reads as buckets-consume-reads
 use Rattle.tables.proofs.buckets.is_expired as buckets-is-expired
@@ -75,6 +74,7 @@ use Rattle.tables.proofs.rules.policy_at as rules-policy-at
 use Rattle.tables.proofs.rules.policy_at.Reads as rules-policy-at-reads
 use Rattle.tables.proofs.rules.plan_rule as rules-plan-rule
 use Rattle.tables.proofs.rules.plan_rule.Reads as rules-plan-rule-reads
+use Rattle.theorems.specs.One.{Out, Any, One, OneLeft, Says, AsksNothing}
 
 pub one-buckets-consume : One buckets-consume.ended buckets-consume-reads.Post
 one-buckets-consume κs a x y e f p q = p ∙ sym q

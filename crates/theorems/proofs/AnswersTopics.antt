@@ -1,6 +1,5 @@
 -- One answer for every public function of `topics`, and nothing asked of its caller (specs/One.antt). Assumes nothing.
 use mathlib.Core.Path.{sym, _∙_}
-use Rattle.theorems.specs.One.{Any, One}
 use Rattle.topics.proofs.hashes.wrapping_mul32 as hashes-wrapping-mul32
 use Rattle.topics.proofs.hashes.wrapping_mul32.Reads as hashes-wrapping-mul32-reads
 use Rattle.topics.proofs.hashes.fnv_step as hashes-fnv-step
@@ -33,6 +32,7 @@ use Rattle.topics.proofs.payload.compute_payload_hash as payload-compute-payloa
 use Rattle.topics.proofs.payload.compute_payload_hash.Reads as payload-compute-payload-hash-reads
 use Rattle.topics.proofs.matching.matches_with as matching-matches-with
 use Rattle.topics.proofs.matching.matches_with.Reads as matching-matches-with-reads
+use Rattle.theorems.specs.One.{Any, One}
 
 pub one-hashes-wrapping-mul32 : One hashes-wrapping-mul32.ended hashes-wrapping-mul32-reads.Post
 one-hashes-wrapping-mul32 κs a x y e f p q = p ∙ sym q

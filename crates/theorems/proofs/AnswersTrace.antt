@@ -3,8 +3,6 @@ use mathlib.Core.Path.{ap₂, sym, _∙_}
 use mathlib.Core.List.{List}
 use Prim.Native.Nat.{ℕ}
 use denote.Ref.{now}
-use Rattle.theorems.specs.One.{Any, One, OneLeft}
-use Rattle.theorems.proofs.AnswersLines.{wrote-once}
 use Rattle.trace.proofs.groups.read_opening as groups-read-opening
 use Rattle.trace.proofs.groups.read_opening.Reads as groups-read-opening-reads
 use Rattle.trace.proofs.groups.read_rule as groups-read-rule
@@ -27,6 +25,8 @@ use Rattle.trace.proofs.run.trace_length as run-trace-length
 use Rattle.trace.proofs.run.trace_length.Reads as run-trace-length-reads
 use Rattle.trace.proofs.run.run_trace as run-run-trace
 use Rattle.trace.proofs.run.run_trace.Reads as run-run-trace-reads
+use Rattle.theorems.specs.One.{Any, One, OneLeft}
+use Rattle.theorems.proofs.AnswersLines.{wrote-once}
 
 pub one-groups-read-opening : One groups-read-opening.ended groups-read-opening-reads.Post
 one-groups-read-opening κs a x y e f p q = p .0 ∙ sym (q .0)

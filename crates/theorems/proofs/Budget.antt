@@ -15,6 +15,7 @@ use lib.ListN.{length, set, length-set}
 use lib.Seq.{getD-set-same, getD-set-other}
 use Rattle.laws.proofs.Tests.{fails}
 use Rattle.laws.proofs.Cases.{by}
+use Rattle.laws.proofs.Lists.{each}
 use Rattle.tables.specs.Buckets.{noBucket, holdsBucket, spend, made, isExpired}
 use Rattle.tables.specs.Identity.{isOf}
 use Rattle.tables.specs.declared.identity.Id.{Id}
@@ -22,7 +23,6 @@ use Rattle.tables.specs.declared.buckets.RateBucket.{RateBucket}
 use Rattle.tables.proofs.buckets.BucketLaws.{level, one, Good, spends, makes, keeps, wait}
 use Rattle.tables.proofs.identity.IdentityLaws.{OfTopic}
 use Rattle.tables.proofs.buckets.StepLaws.{bucketAt, timeAt, Absent, free, worn, first, Step, hit, put, expired}
-use Rattle.laws.proofs.Lists.{each}
 use Rattle.theorems.proofs.Holders.{clash, Named, same-holder, held-live, made-holder, not-mine, mine, absent-mine, absent-other}
 
 pub data Inv (x : Id) (R : ℕ) (T : List RateBucket) (now u B : ℕ) : Type 0 where

@@ -1,8 +1,8 @@
 -- P1 to P12 by computation. Assumes nothing.
 use mathlib.Core.Path.{refl}
+use Rattle.slices.specs.Bytes.{same, has, countOf}
 use Rattle.topics.specs.Hashes.{fnv1a, djb2, suffixHash, clientHashes}
 use Rattle.topics.specs.Levels.{firstLevel, restLevels}
-use Rattle.slices.specs.Bytes.{same, has, countOf}
 use Rattle.topics.specs.Matching.{matchLevels, fromSlash, takesNone, takesEnd, matchBytes, standardRule, standardMatches}
 use Rattle.topics.specs.Patterns.{wellPlaced, patternRefusal}
 use Rattle.tables.specs.Buckets.{refilled, spend, isExpired, holdsBucket, newcomer, decide}

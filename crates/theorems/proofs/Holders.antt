@@ -5,6 +5,7 @@ use mathlib.Core.List.{List}
 use mathlib.Core.Path.{_≡_, refl, sym, _∙_}
 use Prim.Native.Nat.{ℕ}
 use Rattle.laws.proofs.Tests.{both}
+use Rattle.laws.proofs.Lists.{each}
 use Rattle.tables.specs.Buckets.{noBucket, holdsBucket, spend, made}
 use Rattle.tables.specs.Identity.{isOf}
 use Rattle.tables.specs.declared.identity.Id.{Id}
@@ -12,7 +13,6 @@ use Rattle.tables.specs.declared.buckets.RateBucket.{RateBucket}
 use Rattle.tables.proofs.buckets.BucketLaws.{keeps}
 use Rattle.tables.proofs.identity.IdentityLaws.{OfTopic, of-true, of-like}
 use Rattle.tables.proofs.buckets.StepLaws.{first, bucketAt, Absent, Step, hit, put}
-use Rattle.laws.proofs.Lists.{each}
 
 -- two opposite answers
 pub clash : {P : Type 0} {c : Bool} → c ≡ true → c ≡ false → P

@@ -6,23 +6,23 @@ use mathlib.Core.Path.{_≡_, refl, sym, ap, _∙_}
 use Prim.Native.Nat.{ℕ, zero, suc, _+_, _*_, _≤_, min}
 use native.Mathlib.Omega.{arith}
 use lib.ListN.{length, length-take, length-drop}
-use Rattle.tables.specs.Rules.{ruleMatches}
+use Rattle.laws.specs.Lists.{every}
 use Rattle.laws.proofs.Cases.{by}
+use Rattle.laws.proofs.Every.{every-join}
 use Rattle.lines.specs.Span.{part}
+use Rattle.tables.specs.Rules.{ruleMatches}
 use Rattle.monitor.specs.Inspect.{doneWith}
 use Rattle.monitor.specs.Runs.{Call, Exact, Reply, answer, after, replies, isInspected}
-use Rattle.laws.specs.Lists.{every}
 use Rattle.monitor.specs.State.{wellFormed}
 use Rattle.monitor.specs.declared.inspection.Inspected.{Inspected}
 use Rattle.monitor.specs.declared.state.MqttMonitor.{MqttMonitor}
 use Rattle.monitor.proofs.state.KeptFormed.{kept-formed}
 use Rattle.monitor.proofs.Prepared.{prepared-sound}
 use Rattle.monitor.proofs.Replies.{exact-done}
-use Rattle.loops.proofs.inspections.LoopLaws.{readied-prepared}
 use Rattle.loops.specs.Inspections.{fromAt, readied, planAt, stateAfter, allowedAfter}
+use Rattle.loops.proofs.inspections.LoopLaws.{readied-prepared}
 use Rattle.loops.proofs.inspections.LoopLaws.{next-within, all-run}
 use Rattle.theorems.specs.Printed.{passed, callAt, callsTo, loopReplies, LoopLimits}
-use Rattle.laws.proofs.Every.{every-join}
 use Rattle.theorems.specs.Run.{time, InOrder, nothing, single, later}
 use Rattle.theorems.proofs.Cuts.{after-two}
 use Rattle.theorems.proofs.Printed.{topic-limits}

@@ -18,10 +18,10 @@ use Rattle.tables.proofs.buckets.BucketLaws.{earned}
 use Rattle.tables.proofs.identity.IdentityLaws.{OfTopic}
 use Rattle.tables.proofs.buckets.StepLaws.{bucketAt, Absent, Step, hit, put}
 use Rattle.monitor.specs.declared.state.MqttMonitor.{MqttMonitor}
-use Rattle.monitor.proofs.Prepared.{all-free}
-use Rattle.theorems.specs.Limits.{LowerFirst, LowerLater}
 use Rattle.monitor.specs.Runs.{Call, after}
 use Rattle.monitor.specs.Prepared.{Prepared}
+use Rattle.monitor.proofs.Prepared.{all-free}
+use Rattle.theorems.specs.Limits.{LowerFirst, LowerLater}
 use Rattle.theorems.specs.Run.{Matcher, time, used, rateOf, reaches, OneRate, done, next, Silent, arrived, isAmong, noted}
 use Rattle.theorems.proofs.Cuts.{Timed, From, from-start, until, after-two, arrived-two, rate-first, rate-rest, rate-head}
 use Rattle.theorems.proofs.Holders.{clash, Named, mine, absent-mine, absent-other}

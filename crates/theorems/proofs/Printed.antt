@@ -8,24 +8,24 @@ use native.Mathlib.Omega.{arith}
 use borrow.Author.Tests.{lt-ltb, not-true}
 use lib.Dec.{eqb, ltb}
 use lib.ListN.{length, length-take}
-use Rattle.slices.specs.Bytes.{same}
-use Rattle.tables.specs.Rules.{ruleMatches}
+use Rattle.laws.specs.Lists.{every}
 use Rattle.laws.proofs.Tests.{both, alike, fails}
 use Rattle.laws.proofs.Cases.{by}
+use Rattle.laws.proofs.Every.{every-front, every-back}
+use Rattle.slices.specs.Bytes.{same}
 use Rattle.slices.proofs.bytes.SameLaws.{same-true, same-refl}
+use Rattle.tables.specs.Rules.{ruleMatches}
 use Rattle.tables.specs.Identity.{idOf, isOf}
 use Rattle.tables.proofs.identity.IdentityLaws.{is-of-refl, is-of-exact}
 use Rattle.monitor.specs.Inspect.{inspectRefusal, inspectWith}
 use Rattle.monitor.specs.Prepared.{Prepared}
 use Rattle.monitor.specs.Runs.{Call, Reply, answer, after, replies, isInspected, isPassed}
-use Rattle.laws.specs.Lists.{every}
 use Rattle.monitor.specs.State.{numberOf}
 use Rattle.monitor.specs.declared.state.MqttMonitor.{MqttMonitor}
 use Rattle.monitor.proofs.Prepared.{prepared-sound}
 use Rattle.trace.specs.Trace.{messagesOf}
 use Rattle.trace.proofs.AsRun.{as-run}
 use Rattle.theorems.specs.Printed.{publishes, isQuiet, passedOf, topicRate, calls, TopicLimits, PrintedLimits}
-use Rattle.laws.proofs.Every.{every-front, every-back}
 use Rattle.theorems.specs.Run.{Matcher, time, isAllowed, used, isPublish, isName, rateOf, reaches, InOrder, nothing, single, later, OneRate, done, next, Silent, allowedOf, arrived}
 use Rattle.theorems.proofs.Lower.{lower-first, lower-later}
 use Rattle.theorems.proofs.Turns.{Like, rate-like, on, on-run, begin}

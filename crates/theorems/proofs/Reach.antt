@@ -10,9 +10,9 @@ use lib.Dec.{eqb, ltb}
 use lib.ListN.{length, getD, take, length-take, List·getD-eq-default}
 use lib.Seq.{getD-take}
 use Rattle.laws.specs.Lists.{none, every}
-use Rattle.topics.specs.Names.{badPublish}
 use Rattle.laws.proofs.Tests.{both}
 use Rattle.laws.proofs.Cases.{by}
+use Rattle.topics.specs.Names.{badPublish}
 use Rattle.tables.specs.Rules.{patternOf, ruleFine, firstRule, noRule}
 use Rattle.tables.specs.Scan.{find}
 use Rattle.tables.specs.declared.rules.TopicAction.{TopicAction}

@@ -13,6 +13,7 @@ use lib.ListN.{length, set, length-append}
 use lib.Seq.{getD-set-same, getD-set-other}
 use Rattle.laws.proofs.Tests.{fails}
 use Rattle.laws.proofs.Cases.{by}
+use Rattle.laws.proofs.Lists.{each}
 use Rattle.tables.specs.Buckets.{noBucket, holdsBucket, spend, made}
 use Rattle.tables.specs.Identity.{isOf}
 use Rattle.tables.specs.declared.identity.Id.{Id}
@@ -20,7 +21,6 @@ use Rattle.tables.specs.declared.buckets.RateBucket.{RateBucket}
 use Rattle.tables.proofs.buckets.BucketLaws.{keeps}
 use Rattle.tables.proofs.identity.IdentityLaws.{OfTopic, of-true, is-of-refl}
 use Rattle.tables.proofs.buckets.StepLaws.{bucketAt, timeAt, Absent, Seat, free, worn, first, Step, hit, put}
-use Rattle.laws.proofs.Lists.{each}
 use Rattle.theorems.specs.Run.{isAmong, noted}
 use Rattle.theorems.proofs.Holders.{clash, Named, same-holder, held-live, no-holder, made-holder, not-mine, mine}
 

@@ -6,6 +6,7 @@ use mathlib.Core.List.{List, [], _∷_, _++_}
 use Prim.Native.Nat.{ℕ, _+_, _-_, _*_, _≤_, _<_}
 use native.Mathlib.Omega.{arith}
 use lib.ListN.{length}
+use Rattle.laws.specs.Lists.{every}
 use Rattle.slices.specs.Bytes.{bytes, same, has, countOf, begins, findByte, toByte}
 use Rattle.topics.specs.Hashes.{fnv1a, djb2, suffixHash}
 use Rattle.topics.specs.Levels.{firstLevel, restLevels}
@@ -32,7 +33,6 @@ use Rattle.monitor.specs.Gate.{rulingOf, gateAfter, gateOf}
 use Rattle.monitor.specs.Inspect.{applied, inspectRefusal, inspectWith}
 use Rattle.monitor.specs.Plan.{seenOf, spentOf, fedOf, denialOf, planFrom, planOf}
 use Rattle.monitor.specs.Runs.{Call, answer, after}
-use Rattle.laws.specs.Lists.{every}
 use Rattle.monitor.specs.State.{wellFormed}
 use Rattle.monitor.specs.declared.inspection.Inspected.{Inspected}
 use Rattle.monitor.specs.declared.state.MqttMonitor.{MqttMonitor}

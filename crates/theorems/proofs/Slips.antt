@@ -1,8 +1,9 @@
 -- The three runs, by computation. Assumes nothing.
 use mathlib.Core.Path.{refl}
+use Rattle.laws.specs.Lists.{every}
+use Rattle.slices.specs.Bytes.{same, has, countOf}
 use Rattle.topics.specs.Hashes.{fnv1a, djb2, suffixHash}
 use Rattle.topics.specs.Levels.{firstLevel, restLevels}
-use Rattle.slices.specs.Bytes.{same, has, countOf}
 use Rattle.topics.specs.Matching.{fromSlash, takesNone, takesEnd, matchBytes}
 use Rattle.topics.specs.Patterns.{wellPlaced, patternRefusal}
 use Rattle.tables.specs.Buckets.{refilled, spend, isExpired, holdsBucket, newcomer, decide}
@@ -14,7 +15,6 @@ use Rattle.monitor.specs.Calls.{fresh, addRule}
 use Rattle.monitor.specs.Gate.{rulingOf, gateAfter, gateOf}
 use Rattle.monitor.specs.Inspect.{applied, inspectRefusal, inspectWith}
 use Rattle.monitor.specs.Plan.{seenOf, spentOf, fedOf, denialOf, planFrom, planOf}
-use Rattle.laws.specs.Lists.{every}
 use Rattle.monitor.specs.State.{wellFormed}
 use Rattle.monitor.specs.Runs.{after}
 use Rattle.theorems.specs.Run.{firstRate, rateOf, reaches, allowedOf}

@@ -3,6 +3,7 @@ use mathlib.Core.Bool.{false≢true}
 use mathlib.Core.Path.{refl}
 use Prim.Native.Nat.{ℕ, _≤_}
 use native.Mathlib.Omega.{arith}
+use Rattle.laws.specs.Lists.{every}
 use Rattle.slices.specs.Bytes.{bytes, same, has, countOf}
 use Rattle.topics.specs.Hashes.{fnv1a, djb2, suffixHash}
 use Rattle.topics.specs.Levels.{firstLevel, restLevels}
@@ -19,7 +20,6 @@ use Rattle.monitor.specs.Calls.{fresh, addRule}
 use Rattle.monitor.specs.Gate.{rulingOf, gateAfter, gateOf}
 use Rattle.monitor.specs.Inspect.{applied, inspectRefusal, inspectWith}
 use Rattle.monitor.specs.Plan.{seenOf, spentOf, fedOf, denialOf, planFrom, planOf}
-use Rattle.laws.specs.Lists.{every}
 use Rattle.monitor.specs.State.{wellFormed}
 use Rattle.monitor.specs.Runs.{after}
 use Rattle.monitor.specs.Prepared.{Prepared, made, rule}

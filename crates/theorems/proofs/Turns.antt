@@ -19,11 +19,11 @@ use Rattle.monitor.specs.Inspect.{inspectRefusal}
 use Rattle.monitor.specs.Plan.{gateIn}
 use Rattle.monitor.specs.State.{wellFormed}
 use Rattle.monitor.specs.declared.state.MqttMonitor.{MqttMonitor}
+use Rattle.monitor.specs.Runs.{Call, answer, after}
+use Rattle.monitor.specs.Prepared.{Prepared}
 use Rattle.monitor.proofs.state.KeptFormed.{kept-formed}
 use Rattle.monitor.proofs.Prepared.{all-free}
 use Rattle.monitor.proofs.Link.{SameRules, refused, rules-stay, not-asked, asked, allowed}
-use Rattle.monitor.specs.Runs.{Call, answer, after}
-use Rattle.monitor.specs.Prepared.{Prepared}
 use Rattle.theorems.specs.Run.{Matcher, time, isAllowed, used, rateOf, reaches}
 use Rattle.theorems.proofs.Holders.{Named, names}
 use Rattle.theorems.proofs.Reach.{gate-rate, no-rate}

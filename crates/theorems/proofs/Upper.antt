@@ -14,8 +14,8 @@ use Rattle.tables.specs.declared.identity.Id.{Id}
 use Rattle.tables.specs.declared.buckets.RateBucket.{RateBucket}
 use Rattle.tables.proofs.buckets.BucketLaws.{one}
 use Rattle.monitor.specs.declared.state.MqttMonitor.{MqttMonitor}
-use Rattle.theorems.specs.Limits.{Upper}
 use Rattle.monitor.specs.Runs.{Call, answer, after}
+use Rattle.theorems.specs.Limits.{Upper}
 use Rattle.theorems.specs.Run.{Matcher, time, isAllowed, used, rateOf, reaches, OneRate, next, allowedOf}
 use Rattle.theorems.proofs.Budget.{Inv, spare, bounded, quiet, reopen, own, other}
 use Rattle.theorems.proofs.Cuts.{Timed, timed-le, From, from-start, until, since, to-last, rate-first, rate-rest}

@@ -2,18 +2,19 @@
 use mathlib.Core.Path.{refl}
 use Prim.Native.Nat.{_≤_}
 use native.Mathlib.Omega.{arith}
-use Rattle.lines.specs.Decimal.{decimal, decimalIn}
-use Rattle.lines.specs.Field.{keyed, lineAt, answered, numberField, wordField, hexField}
-use Rattle.lines.specs.ReadDecimal.{isDigit, digitsAfter, noSpareZero, decimalOf}
-use Rattle.lines.specs.ReadHex.{isHex, unhex, hexRefusal}
+use Rattle.laws.specs.Lists.{every}
 use Rattle.slices.specs.Bytes.{begins, toByte, findByte, same, has, countOf}
-use Rattle.lines.specs.ReadWord.{wordIndex, wordOf}
-use Rattle.lines.specs.Span.{spanOf}
-use Rattle.lines.specs.Word.{firstWord, restWords}
 use Rattle.topics.specs.Hashes.{fnv1a, djb2, suffixHash}
 use Rattle.topics.specs.Levels.{firstLevel, restLevels}
 use Rattle.topics.specs.Matching.{fromSlash, takesNone, takesEnd, matchBytes}
 use Rattle.topics.specs.Patterns.{wellPlaced, patternRefusal}
+use Rattle.lines.specs.Decimal.{decimal, decimalIn}
+use Rattle.lines.specs.Field.{keyed, lineAt, answered, numberField, wordField, hexField}
+use Rattle.lines.specs.ReadDecimal.{isDigit, digitsAfter, noSpareZero, decimalOf}
+use Rattle.lines.specs.ReadHex.{isHex, unhex, hexRefusal}
+use Rattle.lines.specs.ReadWord.{wordIndex, wordOf}
+use Rattle.lines.specs.Span.{spanOf}
+use Rattle.lines.specs.Word.{firstWord, restWords}
 use Rattle.tables.specs.Buckets.{refilled, spend, isExpired, holdsBucket, newcomer, decide}
 use Rattle.tables.specs.Identity.{prefixOf, idOf, isOf}
 use Rattle.tables.specs.Rules.{qosOk, ruleFine, equalRule, firstRule, covered, shadowedAfter, rulePlan}
@@ -24,7 +25,6 @@ use Rattle.monitor.specs.Gate.{rulingOf, gateAfter, gateOf}
 use Rattle.monitor.specs.Inspect.{applied, inspectRefusal, inspectWith}
 use Rattle.monitor.specs.Plan.{seenOf, spentOf, fedOf, denialOf, planFrom, planOf}
 use Rattle.monitor.specs.Runs.{replies}
-use Rattle.laws.specs.Lists.{every}
 use Rattle.monitor.specs.State.{wellFormed}
 use Rattle.trace.specs.Groups.{openingOf, opening1, opening2, ruleAt, rule1, rule2, rule3, rule4, messageAt, message1, message2, message3, message4, message5, message6, message7}
 use Rattle.trace.specs.Trace.{ruleInto, rulesInto, loadedFrom, loaded, messagesFrom, messagesOf}

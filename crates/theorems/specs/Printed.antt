@@ -7,12 +7,12 @@ use mathlib.Core.Bool.{Bool, true, cond, not, _&&_}
 use mathlib.Core.List.{List, [], _∷_, _++_}
 use Prim.Native.Nat.{ℕ, zero, suc, _+_, _-_, _*_, _/_, _≤_, _<_, min}
 use lib.ListN.{length}
+use Rattle.laws.specs.Lists.{every}
 use Rattle.slices.specs.Bytes.{same, bytes}
-use Rattle.tables.specs.Rules.{ruleMatches}
 use Rattle.lines.specs.Span.{part}
+use Rattle.tables.specs.Rules.{ruleMatches}
 use Rattle.monitor.specs.Prepared.{Prepared}
 use Rattle.monitor.specs.Runs.{Call, Reply, replies, isInspected, isPassed}
-use Rattle.laws.specs.Lists.{every}
 use Rattle.monitor.specs.declared.state.MqttMonitor.{MqttMonitor}
 use Rattle.trace.specs.AsRun.{AsRun, repliesOf}
 use Rattle.trace.specs.Trace.{loaded, messagesOf}

@@ -15,9 +15,9 @@ use Rattle.monitor.specs.declared.inspection.Inspected.{Inspected}
 use Rattle.monitor.specs.declared.state.MqttMonitor.{MqttMonitor}
 use Rattle.monitor.specs.declared.state.Outcome.{Outcome}
 use Rattle.monitor.specs.declared.state.Outcome.the-variants.{Done}
+use Rattle.monitor.specs.Prepared.{Prepared}
 use Rattle.trace.specs.Trace.{traceEnd}
 use Rattle.trace.specs.declared.run.TraceEnd.{TraceEnd}
-use Rattle.monitor.specs.Prepared.{Prepared}
 use Rattle.theorems.specs.Run.{Matcher, time, reaches, InOrder, OneRate, Silent, arrived}
 
 -- a monitor: what it hands back on a state and a call

@@ -6,9 +6,9 @@ use mathlib.Core.Path.{_≡_, refl}
 use Prim.Native.Nat.{ℕ}
 use borrow.Author.Tests.{eqb-true}
 use lib.Dec.{eqb}
-use Rattle.topics.specs.Levels.{firstLevel, restLevels, levels, joinLevels}
-use Rattle.slices.specs.Bytes.{has}
 use Rattle.laws.proofs.Cases.{by}
+use Rattle.slices.specs.Bytes.{has}
+use Rattle.topics.specs.Levels.{firstLevel, restLevels, levels, joinLevels}
 
 -- a byte before the first level
 join-cons : (c : ℕ) (l : List ℕ) (ls : List (List ℕ)) → joinLevels ((c ∷ l) ∷ ls) ≡ c ∷ joinLevels (l ∷ ls)

@@ -1,15 +1,15 @@
 -- Document 01, "Topics, level by level": the two matchers. `matchLevels` is the document's definition, for the port and for MQTT 3.1.1 section 4.7 alike:
 -- the flag `emptyLast` says whether `+` takes an empty level that is the topic's last (the standard) or refuses it (the port). `matchBytes` is what the Rust
--- does on the bytes of any pattern, valid or not; proofs/Meaning.antt shows that the two agree wherever the wildcards are well placed.
+-- does on the bytes of any pattern, valid or not; proofs/matching/Meaning.antt shows that the two agree wherever the wildcards are well placed.
 -- Assumes nothing.
 use mathlib.Core.Bool.{Bool, true, false, cond, not, _&&_, _||_}
 use mathlib.Core.List.{List, [], _∷_}
 use Prim.Native.Nat.{ℕ}
 use Prim.Native.Char.{code}
 use lib.Dec.{eqb}
-use Rattle.topics.specs.Levels.{levels, isHash, isPlus}
 use Rattle.laws.specs.Lists.{none}
 use Rattle.slices.specs.Bytes.{same, startsWith}
+use Rattle.topics.specs.Levels.{levels, isHash, isPlus}
 use Rattle.topics.specs.Names.{startsWithDollar}
 use Rattle.topics.specs.Patterns.{patternRefusal}
 use Rattle.topics.specs.declared.matching.StandardMatch.{StandardMatch}

@@ -1,5 +1,5 @@
 -- What is claimed of the matchers (document 01, "Topics, level by level"), of every topic and every pattern whose wildcards are well placed. That the Rust answers so too, also on
--- other patterns, is not proved but compared (bin/compare). The proofs are in proofs/Meaning.antt and proofs/Difference.antt.
+-- other patterns, is not proved but compared (bin/compare). The proofs are in proofs/matching/Meaning.antt and Difference.antt.
 -- Assumes nothing.
 use mathlib.Core.Path.{_≡_}
 use mathlib.Core.Bool.{Bool, true, not, _&&_}

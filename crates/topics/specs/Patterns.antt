@@ -6,9 +6,9 @@ use Prim.Native.Nat.{ℕ}
 use Prim.Native.Char.{code}
 use lib.Dec.{ltb}
 use lib.ListN.{length}
+use Rattle.laws.specs.Lists.{none}
 use Rattle.slices.specs.Bytes.{has, countOf}
 use Rattle.topics.specs.Levels.{levels, isHash, isPlus}
-use Rattle.laws.specs.Lists.{none}
 
 -- a level with no wildcard in it
 abbrev pub isPlain : List ℕ → Bool

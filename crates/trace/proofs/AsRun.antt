@@ -7,15 +7,15 @@ use mathlib.Core.List.{List, [], _∷_, _++_, append-assoc}
 use native.Mathlib.Omega.{arith}
 use lib.Dec.{eqb, leb}
 use lib.ListN.{length}
+use Rattle.laws.specs.Lists.{every}
+use Rattle.laws.proofs.Cases.{whichever}
 use Rattle.tables.specs.Rules.{ruleMatches}
 use Rattle.monitor.specs.Inspect.{applied, resultOf, doneWith}
 use Rattle.monitor.specs.Prepared.{Prepared, made, rule}
 use Rattle.monitor.specs.Runs.{Call, Exact, answer, after, replies, isInspected}
-use Rattle.laws.specs.Lists.{every}
 use Rattle.monitor.specs.State.{wellFormed}
 use Rattle.monitor.specs.declared.inspection.Inspected.{Inspected}
 use Rattle.monitor.specs.declared.state.MqttMonitor.{MqttMonitor}
-use Rattle.laws.proofs.Cases.{whichever}
 use Rattle.monitor.proofs.state.KeptFormed.{applied-formed}
 use Rattle.monitor.proofs.Prepared.{prepared-sound}
 use Rattle.monitor.proofs.Replies.{exact-done}

@@ -8,15 +8,15 @@ use native.Mathlib.Omega.{arith}
 use lib.Dec.{eqb, leb}
 use lib.ListN.{length, length-append}
 use borrow.Author.Tests.{eqb-true, eqb-false, leb-true, leb-false}
-use Rattle.tables.specs.Rules.{ruleMatches, rulePlan}
+use Rattle.laws.proofs.Cases.{by, whichever}
 use Rattle.topics.specs.Patterns.{patternRefusal}
 use mathlib.Core.Logic.{_⊎_, inl, inr}
 use Rattle.topics.proofs.patterns.PatternLaws.{refusal-number}
-use Rattle.laws.proofs.Cases.{by, whichever}
-use Rattle.tables.proofs.rules.PlanLaws.{plan-cases}
+use Rattle.tables.specs.Rules.{ruleMatches, rulePlan}
 use Rattle.tables.specs.declared.rules.QosPolicy.{QosPolicy}
 use Rattle.tables.specs.declared.rules.TopicAction.{TopicAction}
 use Rattle.tables.specs.declared.rules.TopicRule.{TopicRule}
+use Rattle.tables.proofs.rules.PlanLaws.{plan-cases}
 use Rattle.monitor.specs.Calls.{fresh, tested, addRule}
 use Rattle.monitor.specs.Runs.{Call}
 use Rattle.monitor.specs.State.{wellFormed, numberOf}

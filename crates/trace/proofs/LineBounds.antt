@@ -9,16 +9,16 @@ use lib.Dec.{eqb, leb}
 use lib.ListN.{length}
 use borrow.Author.Tests.{eqb-true, eqb-false}
 use Rattle.laws.specs.Lists.{every}
+use Rattle.laws.proofs.Cases.{by}
+use Rattle.slices.specs.Bytes.{begins, placeIn}
 use Rattle.lines.specs.Field.{Within, refused, read, keyed, lineAt, valueOf, onLine, answered, numberField, wordField, hexField}
 use Rattle.lines.specs.ReadDecimal.{decimalOf}
 use Rattle.lines.specs.ReadHex.{isHex, unhex, hexCount, hexRefusal}
-use Rattle.slices.specs.Bytes.{begins, placeIn}
 use Rattle.lines.specs.ReadWord.{wordOf}
 use Rattle.lines.specs.Span.{spanOf, part}
 use Rattle.lines.specs.declared.read.Field.{Field}
 use Rattle.lines.specs.declared.value.Number.{Number}
 use Rattle.lines.specs.declared.value.Number.the-variants.{Value, Bad}
-use Rattle.laws.proofs.Cases.{by}
 use Rattle.lines.proofs.DecimalRound.{decimal-range}
 use Rattle.lines.proofs.read.FieldLaws.{within-refused, line-inside, line-room}
 use Rattle.lines.proofs.HexRound.{unhex-length}

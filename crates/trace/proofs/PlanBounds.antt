@@ -8,9 +8,9 @@ use native.Mathlib.Omega.{arith}
 use lib.Dec.{eqb, ltb}
 use lib.ListN.{length, take, set, length-append, length-set, length-take}
 use borrow.Author.Tests.{ltb-true, ne-eqb}
+use Rattle.laws.proofs.Cases.{by, by-le, whichever}
 use Rattle.topics.specs.Payload.{payloadHash}
 use Rattle.topics.proofs.hashes.HashLaws.{payload-length}
-use Rattle.laws.proofs.Cases.{by, by-le, whichever}
 use Rattle.monitor.specs.Alerts.{denies, hashOf, when, kindsOf, noAlert, noneRaised, raise, raiseAll}
 use Rattle.monitor.specs.Inspect.{applied, resultOf}
 use Rattle.monitor.specs.Plan.{planFrom, planOf}

@@ -6,10 +6,10 @@ use mathlib.Core.Path.{_≡_}
 use mathlib.Core.Bool.{true}
 use mathlib.Core.List.{List, [], _∷_, _++_}
 use Prim.Native.Nat.{ℕ, _+_}
+use Rattle.laws.specs.Lists.{every}
 use Rattle.tables.specs.Rules.{ruleMatches}
 use Rattle.monitor.specs.Prepared.{Prepared}
 use Rattle.monitor.specs.Runs.{Reply, replies, after, isInspected}
-use Rattle.laws.specs.Lists.{every}
 use Rattle.monitor.specs.declared.state.MqttMonitor.{MqttMonitor}
 use Rattle.trace.specs.Record.{recordText, closingText}
 use Rattle.trace.specs.Trace.{loaded, messagesOf, traceText}

@@ -7,6 +7,7 @@ use lib.Dec.{eqb, leb}
 use lib.ListN.{length}
 use lib.Seq.{sets}
 use Rattle.tables.specs.Rules.{ruleMatches}
+use Rattle.tables.specs.declared.rules.TopicAction.the-variants.{Allow}
 use Rattle.monitor.specs.Calls.{fresh, addRule}
 use Rattle.monitor.specs.Inspect.{applied, resultOf}
 use Rattle.monitor.specs.Plan.{planOf}
@@ -14,7 +15,6 @@ use Rattle.monitor.specs.Runs.{Call}
 use Rattle.monitor.specs.State.{numberOf}
 use Rattle.monitor.specs.declared.plan.Plan.{Plan}
 use Rattle.monitor.specs.declared.state.MqttMonitor.{MqttMonitor}
-use Rattle.tables.specs.declared.rules.TopicAction.the-variants.{Allow}
 use Rattle.trace.specs.Groups.{openingOf, ruleAt, patternIn, messageAt, topicIn, payloadIn}
 use Rattle.trace.specs.Record.{recordText, closingText}
 use Rattle.trace.specs.declared.groups.OpeningLines.{OpeningLines}
@@ -67,7 +67,7 @@ loadedFrom s o =
 unfoldable pub loaded : List ℕ → Loaded
 loaded s = cond (leb (length s) 65536) (loadedFrom s (openingOf s)) (notLoaded 27 0 0 (fresh Allow))
 
--- the monitor's default and rules, which say all of it: the rest is as in a fresh one (proofs/LoadLaws.antt, `loaded-monitor`)
+-- the monitor's default and rules, which say all of it: the rest is as in a fresh one (proofs/run/LoadLaws.antt, `loaded-monitor`)
 abbrev pub rulesOf : Loaded → LoadedRules
 rulesOf l =
     record {

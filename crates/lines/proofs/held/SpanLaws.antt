@@ -9,8 +9,8 @@ use lib.Dec.{ltb}
 use lib.ListN.{length}
 use borrow.Author.Tests.{le-ltb, ltb-true}
 use Rattle.slices.specs.Bytes.{findByte}
-use Rattle.lines.specs.Span.{spanOf}
 use Rattle.slices.proofs.bytes.PlaceLaws.{place-end, place-within}
+use Rattle.lines.specs.Span.{spanOf}
 
 module _ (s : List ℕ) (at : ℕ) where
   -- past the end there is no line

@@ -9,8 +9,8 @@ use native.Mathlib.Numerals.{add-one}
 use borrow.Author.Tests.{lt-ltb, le-ltb}
 use lib.ListN.{length, take, drop, set, length-append, length-drop, length-set}
 use lib.Seq.{drop-cons, lt-length-set, getD-set-same, drop-set-lt, append-snoc, take-all}
-use Rattle.lines.specs.Decimal.{decimalIn, decimal}
 use Rattle.laws.proofs.Cases.{by-le}
+use Rattle.lines.specs.Decimal.{decimalIn, decimal}
 
 -- any count that is enough gives the same digits
 enough : (k j n : ℕ) → n ≤ k → n ≤ j → decimalIn k n ≡ decimalIn j n

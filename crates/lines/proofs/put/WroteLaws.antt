@@ -8,8 +8,8 @@ use native.Mathlib.Nat.{add-zero, add-suc, suc-add}
 use native.Mathlib.Numerals.{add-one}
 use lib.ListN.{length, set, take, drop, getD, length-append, take-append-drop}
 use lib.Seq.{sets, length-sets, set-out, take-all, take-suc}
-use Rattle.lines.specs.Wrote.{Wrote, placeAfter}
 use Rattle.laws.proofs.Cases.{by-le}
+use Rattle.lines.specs.Wrote.{Wrote, placeAfter}
 
 sets-append : (l : List ℕ) (i : ℕ) (a b : List ℕ) → sets (sets l i a) (i + length a) b ≡ sets l i (a ++ b)
 sets-append l i [] b = rw add-zero

@@ -7,17 +7,17 @@ use native.Mathlib.Nat.{le-refl}
 use native.Mathlib.Omega.{arith}
 use lib.ListN.{length, length-take, length-drop}
 use borrow.Author.Tests.{eq-eqb, ne-eqb}
+use Rattle.laws.proofs.Cases.{by}
+use Rattle.slices.specs.Bytes.{placeIn, begins}
+use Rattle.slices.proofs.bytes.WalkLaws.{begins-fits}
 use Rattle.lines.specs.declared.held.Span.{Span}
 use Rattle.lines.specs.declared.read.Field.{Field}
 use Rattle.lines.specs.declared.value.Number.{Number}
 use Rattle.lines.specs.declared.value.Number.the-variants.{Value, Bad}
-use Rattle.slices.specs.Bytes.{placeIn, begins}
 use Rattle.lines.specs.Span.{spanOf, part}
 use Rattle.lines.specs.ReadHex.{hexCount}
 use Rattle.lines.specs.Field.{Within, refused, read, keyed, lineAt, valueOf, onLine, answered, spelledBytes}
-use Rattle.laws.proofs.Cases.{by}
 use Rattle.lines.proofs.held.SpanLaws.{span-within, span-whole}
-use Rattle.slices.proofs.bytes.WalkLaws.{begins-fits}
 
 -- a refused answer lies in its text where its place does
 pub within-refused : {s : List ℕ} {f : Field} (number at : ℕ) → f ≡ refused number at → at ≤ length s → Within s f

@@ -7,9 +7,9 @@ use lib.Dec.{eqb}
 use lib.ListN.{length, take, drop}
 use lib.Seq.{sets, sets-eq, length-sets, take-append-seam}
 use borrow.Author.Tests.{eqb-true, eqb-false}
+use Rattle.laws.proofs.Cases.{by}
 use Rattle.lines.specs.ReadHex.{hexCount, hexRefusal, unhex, hexInto}
 use Rattle.lines.specs.Field.{lineAt, valueOf, hexField, hexKept}
-use Rattle.laws.proofs.Cases.{by}
 use Rattle.lines.proofs.value.HexLaws.{hex-taken}
 use Rattle.lines.proofs.HexRound.{unhex-length}
 

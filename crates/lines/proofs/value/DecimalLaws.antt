@@ -7,13 +7,13 @@ use native.Mathlib.Omega.{arith}
 use lib.Dec.{eqb, leb}
 use lib.ListN.{length, drop, getD, drop-of-length-le}
 use borrow.Author.Tests.{le-leb, lt-leb, leb-true, leb-false}
-use Rattle.lines.specs.declared.value.Number.the-variants.{Value, Bad}
 use Rattle.laws.specs.Lists.{every}
-use Rattle.lines.specs.ReadDecimal.{isDigit, withDigit, digitFits, digitsAfter, noSpareZero, decimalOf}
 use Rattle.laws.proofs.Cases.{by}
 use Rattle.laws.proofs.Tests.{both}
-use Rattle.slices.proofs.bytes.WalkLaws.{opened}
 use Rattle.laws.proofs.Every.{every-on, every-off, every-end}
+use Rattle.slices.proofs.bytes.WalkLaws.{opened}
+use Rattle.lines.specs.declared.value.Number.the-variants.{Value, Bad}
+use Rattle.lines.specs.ReadDecimal.{isDigit, withDigit, digitFits, digitsAfter, noSpareZero, decimalOf}
 
 module _ (v c high : ℕ) where
   -- the code's test, by a division, is the definition's, by a product

@@ -10,10 +10,10 @@ use lib.ListN.{length, drop, getD, set, length-set, drop-of-length-le}
 use lib.Seq.{sets}
 use borrow.Author.Tests.{eq-eqb, ne-eqb, eqb-true, le-leb, lt-leb, leb-true, lt-ltb, le-ltb}
 use Rattle.laws.specs.Lists.{every}
-use Rattle.lines.specs.ReadHex.{isHex, hexValue, hexCount, hexRefusal, unhex}
 use Rattle.laws.proofs.Cases.{by}
 use Rattle.laws.proofs.Tests.{both, either}
 use Rattle.slices.proofs.bytes.WalkLaws.{opened}
+use Rattle.lines.specs.ReadHex.{isHex, hexValue, hexCount, hexRefusal, unhex}
 
 -- a hex digit is one of two kinds
 pub hex-kinds : {P : Type 0} (c : ℕ) → isHex c ≡ true → (48 ≤ c → c ≤ 57 → P) → (97 ≤ c → c ≤ 102 → P) → P

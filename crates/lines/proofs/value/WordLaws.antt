@@ -9,14 +9,14 @@ use lib.Dec.{eqb}
 use lib.ListN.{length, drop, length-drop}
 use lib.Seq.{drop-drop}
 use borrow.Author.Tests.{lt-ltb, le-ltb}
-use Rattle.lines.specs.declared.value.Number.the-variants.{Value, Bad}
+use Rattle.laws.proofs.Cases.{by}
 use Rattle.slices.specs.Bytes.{same, toByte, findByte}
+use Rattle.slices.proofs.bytes.PlaceLaws.{place-within}
+use Rattle.lines.specs.declared.value.Number.the-variants.{Value, Bad}
 use Rattle.lines.specs.Span.{part}
 use Rattle.lines.specs.Word.{firstWord, restWords, wordsOf}
 use Rattle.lines.specs.ReadWord.{wordIndex, wordOf}
-use Rattle.laws.proofs.Cases.{by}
 use Rattle.lines.proofs.words.WordLaws.{first-to-bar}
-use Rattle.slices.proofs.bytes.PlaceLaws.{place-within}
 
 -- after a bar stand more words
 rest-after-bar : (l : List ℕ) → toByte 124 l < length l → restWords l ≡ wordsOf (drop (suc (toByte 124 l)) l)

@@ -8,11 +8,11 @@ use native.Mathlib.Numerals.{sub-one}
 use borrow.Author.Tests.{eq-eqb, ne-eqb}
 use lib.ListN.{length, take, drop, getD, drop-of-length-le, length-take, length-drop}
 use lib.Dec.{eqb}
-use Rattle.lines.specs.Word.{firstWord, restWords, wordText}
-use Rattle.lines.specs.Part.{PartIs}
 use Rattle.laws.proofs.Cases.{by}
 use Rattle.slices.specs.Bytes.{toByte, findByte}
 use Rattle.slices.proofs.bytes.WalkLaws.{opened}
+use Rattle.lines.specs.Word.{firstWord, restWords, wordText}
+use Rattle.lines.specs.Part.{PartIs}
 
 module _ (s : List ℕ) (i : ℕ) (h : i < length s) where
   pub word-bar : (k : ℕ) → (k ≡ 0 → ⊥) → getD s i 0 ≡ 124 → wordText (drop i s) k ≡ wordText (drop (i + 1) s) (k - 1)

@@ -9,14 +9,15 @@ use native.Mathlib.Omega.{arith}
 use lib.Dec.{leb}
 use lib.ListN.{length, set, replicate}
 use borrow.Author.Tests.{lt-ltb, le-ltb, leb-true}
-use Rattle.tables.specs.Rules.{ruleMatches, emptyRule, rulePlan}
+use Rattle.laws.proofs.Cases.{by}
 use Rattle.slices.specs.Bytes.{bytes}
 use Rattle.lines.specs.Span.{part}
-use Rattle.laws.proofs.Cases.{by}
+use Rattle.tables.specs.Rules.{ruleMatches, emptyRule, rulePlan}
 use Rattle.tables.specs.declared.rules.MqttQoS.the-variants.{AtLeastOnce}
 use Rattle.tables.specs.declared.rules.QosPolicy.the-variants.{MinQoS}
 use Rattle.tables.specs.declared.rules.TopicAction.the-variants.{Allow, Block}
 use Rattle.tables.specs.declared.rules.TopicRule.{TopicRule}
+use Rattle.tables.specs.declared.rules.RulePlan.{RulePlan}
 use Rattle.monitor.specs.Alerts.{counted}
 use Rattle.monitor.specs.Calls.{fresh}
 use Rattle.monitor.specs.Inspect.{applied}
@@ -24,11 +25,10 @@ use Rattle.monitor.specs.Plan.{planOf}
 use Rattle.monitor.specs.State.{wellFormed, withRules}
 use Rattle.monitor.specs.declared.message.MqttMessage.{MqttMessage}
 use Rattle.monitor.specs.declared.plan.Plan.{Plan}
-use Rattle.tables.specs.declared.rules.RulePlan.{RulePlan}
 use Rattle.monitor.specs.declared.state.MqttMonitor.{MqttMonitor}
+use Rattle.monitor.specs.Prepared.{Prepared, made, rule}
 use Rattle.monitor.proofs.rule_calls.AddLaws.{add-takes, add-leaves}
 use Rattle.monitor.proofs.PlainLaws.{holding, no-rules, Plain, fresh-plain, add-plain, add-default}
-use Rattle.monitor.specs.Prepared.{Prepared, made, rule}
 use Rattle.monitor.proofs.Prepared.{prepared-sound}
 use Rattle.loops.specs.Inspections.{patternAt, nextFrom, fromAt, loopMessage, withPattern, ruled, readied, heldRules, stateAfter, allowedAfter, loopAllowed}
 use Rattle.loops.specs.declared.inspections.HeldRules.{HeldRules}

@@ -7,10 +7,10 @@ use native.Mathlib.Omega.{arith}
 use borrow.Author.Tests.{ltb-false}
 use lib.Dec.{eqb, ltb}
 use lib.ListN.{replicate}
+use Rattle.laws.specs.Lists.{some}
 use Rattle.laws.proofs.Cases.{by}
 use Rattle.laws.proofs.Tests.{neither}
 use Rattle.monitor.specs.Alerts.{when, kindsOf, denies, hashOf, raise, raiseAll}
-use Rattle.laws.specs.Lists.{some}
 use Rattle.monitor.specs.declared.alerts.Findings.{Findings}
 use Rattle.monitor.specs.declared.alerts.Raised.{Raised}
 

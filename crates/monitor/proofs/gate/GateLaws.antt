@@ -8,8 +8,8 @@ use borrow.Author.Tests.{le-ltb, lt-ltb}
 use lib.Dec.{eqb}
 use lib.ListN.{length, getD}
 use Rattle.laws.specs.Lists.{none}
-use Rattle.topics.specs.Names.{isBroad, startsWithDollar, badPublish}
 use Rattle.laws.proofs.Tests.{both}
+use Rattle.topics.specs.Names.{isBroad, startsWithDollar, badPublish}
 use Rattle.tables.specs.Rules.{firstRule, noRule}
 use Rattle.tables.specs.declared.rules.TopicAction.{TopicAction}
 use Rattle.tables.specs.declared.rules.TopicRule.{TopicRule}

@@ -6,8 +6,8 @@ use mathlib.Core.Path.{_≡_, ap, _∙_}
 use Prim.Native.Nat.{ℕ}
 use lib.Dec.{eqb, ltb}
 use lib.ListN.{replicate}
-use Rattle.topics.specs.Payload.{payloadHash}
 use Rattle.laws.proofs.Cases.{by}
+use Rattle.topics.specs.Payload.{payloadHash}
 use Rattle.tables.specs.Identity.{idOf}
 use Rattle.tables.specs.declared.buckets.RateBucket.{RateBucket}
 use Rattle.tables.specs.declared.buckets.RateDecision.{RateDecision}

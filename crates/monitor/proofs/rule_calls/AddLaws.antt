@@ -9,9 +9,9 @@ use Rattle.laws.proofs.Cases.{by}
 use Rattle.tables.specs.Rules.{rulePlan}
 use Rattle.tables.specs.declared.rules.QosPolicy.{QosPolicy}
 use Rattle.tables.specs.declared.rules.TopicAction.{TopicAction}
+use Rattle.tables.specs.declared.rules.RulePlan.{RulePlan}
 use Rattle.monitor.specs.Calls.{withRule, shadowsIn, addRule}
 use Rattle.monitor.specs.State.{wellFormed, numberOf}
-use Rattle.tables.specs.declared.rules.RulePlan.{RulePlan}
 use Rattle.monitor.specs.declared.state.MqttMonitor.{MqttMonitor}
 use Rattle.monitor.specs.declared.state.Outcome.the-variants.{Done, Refused}
 use Rattle.monitor.proofs.state.EndedLaws.{ended-by, ended-done}

@@ -5,13 +5,13 @@ use Prim.Native.Nat.{ℕ, _≤_}
 use borrow.Author.Tests.{leb-true, not-true, not-false}
 use lib.Dec.{eqb, leb}
 use lib.ListN.{take}
+use Rattle.laws.specs.Lists.{every}
 use Rattle.laws.proofs.Tests.{both}
 use Rattle.tables.specs.Buckets.{bucketFine}
 use Rattle.tables.specs.Rules.{ruleFine}
 use Rattle.tables.specs.Trackers.{trackerFine}
 use Rattle.tables.specs.Windows.{windowFine}
 use Rattle.monitor.specs.Calls.{tested}
-use Rattle.laws.specs.Lists.{every}
 use Rattle.monitor.specs.State.{wellFormed, ended}
 use Rattle.monitor.specs.declared.state.MqttMonitor.{MqttMonitor}
 use Rattle.monitor.specs.declared.state.Outcome.the-variants.{Done, Refused}

@@ -5,12 +5,12 @@ use Prim.Native.Nat.{_≤_}
 use borrow.Author.Tests.{leb-true, le-leb}
 use lib.Dec.{leb}
 use lib.ListN.{take}
+use Rattle.laws.specs.Lists.{every}
 use Rattle.laws.proofs.Tests.{both}
 use Rattle.tables.specs.Buckets.{bucketFine}
 use Rattle.tables.specs.Rules.{ruleFine}
 use Rattle.tables.specs.Trackers.{trackerFine}
 use Rattle.tables.specs.Windows.{windowFine}
-use Rattle.laws.specs.Lists.{every}
 use Rattle.monitor.specs.State.{wellFormed}
 use Rattle.monitor.specs.declared.state.MqttMonitor.{MqttMonitor}
 

@@ -9,7 +9,9 @@ use borrow.Author.Tests.{ltb-true, ltb-false}
 use lib.Dec.{eqb, ltb}
 use lib.ListN.{length, take}
 use lib.Seq.{set-out}
+use Rattle.laws.specs.Lists.{every}
 use Rattle.laws.proofs.Cases.{by}
+use Rattle.laws.proofs.Every.{every-at, every-set}
 use Rattle.tables.specs.Buckets.{bucketFine, decide, spend, noBucket, emptyBucket}
 use Rattle.tables.specs.Identity.{idOf}
 use Rattle.tables.specs.Trackers.{trackerFine, noTracker}
@@ -22,11 +24,9 @@ use Rattle.tables.proofs.windows.WindowLaws.{connect-fine}
 use Rattle.monitor.specs.Inspect.{applied, inspectRefusal, inspectWith}
 use Rattle.monitor.specs.Message.{typeNumber, usedTopic, usedPayload}
 use Rattle.monitor.specs.Plan.{seenOf, spentOf, fedOf, gateIn, planFrom, planOf}
-use Rattle.laws.specs.Lists.{every}
 use Rattle.monitor.specs.State.{wellFormed}
 use Rattle.monitor.specs.declared.message.MqttMessage.{MqttMessage}
 use Rattle.monitor.specs.declared.state.MqttMonitor.{MqttMonitor}
-use Rattle.laws.proofs.Every.{every-at, every-set}
 use Rattle.monitor.proofs.inspection.ApplyLaws.{stored-or-not}
 use Rattle.monitor.proofs.state.FormedLaws.{formed-parts, parts-formed}
 

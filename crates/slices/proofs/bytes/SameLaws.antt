@@ -7,8 +7,8 @@ use Prim.Native.Nat.{ℕ}
 use lib.Dec.{eqb}
 use lib.ListN.{length}
 use borrow.Author.Tests.{eqb-true, eq-eqb}
-use Rattle.slices.specs.Bytes.{same}
 use Rattle.laws.proofs.Tests.{both, alike, fails}
+use Rattle.slices.specs.Bytes.{same}
 
 -- the test of two bytes, in either order
 eqb-sym : (x y : ℕ) → eqb x y ≡ eqb y x

@@ -10,10 +10,10 @@ use borrow.Author.Tests.{eq-eqb, eqb-true}
 use lib.Dec.{eqb}
 use lib.ListN.{length, take, replicate, length-take}
 use lib.Seq.{take-at, take-all}
-use Rattle.topics.specs.Hashes.{fnv1a, djb2, suffixHash}
-use Rattle.slices.specs.Bytes.{same}
 use Rattle.laws.proofs.Tests.{both, alike}
+use Rattle.slices.specs.Bytes.{same}
 use Rattle.slices.proofs.bytes.SameLaws.{same-true, same-refl}
+use Rattle.topics.specs.Hashes.{fnv1a, djb2, suffixHash}
 use Rattle.tables.specs.Identity.{prefixOf, idOf, isOf, compared}
 use Rattle.tables.specs.declared.identity.Id.{Id}
 

@@ -7,8 +7,8 @@ use native.Mathlib.Numerals.{add-one}
 use native.Mathlib.Omega.{arith}
 use lib.ListN.{length, take, getD, set, replicate}
 use lib.Seq.{take-all, take-suc, append-snoc, set-at, length-take-le}
-use Rattle.slices.specs.Bytes.{same}
 use Rattle.laws.proofs.Lists.{take-like}
+use Rattle.slices.specs.Bytes.{same}
 use Rattle.tables.specs.Identity.{prefixOf}
 
 -- bytes with zeros after them up to a size: one byte more

@@ -7,8 +7,8 @@ use native.Mathlib.Omega.{arith}
 use borrow.Author.Tests.{lt-ltb, le-ltb, ltb-true, ltb-false, eq-eqb, ne-eqb, eqb-true, eqb-false}
 use lib.Dec.{eqb, ltb}
 use lib.ListN.{getD}
-use Rattle.topics.specs.Patterns.{patternRefusal}
 use Rattle.laws.proofs.Cases.{by, choose}
+use Rattle.topics.specs.Patterns.{patternRefusal}
 use Rattle.tables.specs.Rules.{equalRule, noRule}
 use Rattle.tables.specs.declared.rules.QosPolicy.{QosPolicy}
 use Rattle.tables.specs.declared.rules.TopicAction.{TopicAction}

@@ -8,9 +8,9 @@ use borrow.Author.Tests.{lt-leb, le-leb, leb-true, eqb-true, not-true, not-false
 use lib.Dec.{eqb, leb}
 use lib.ListN.{length, take, drop, getD, length-take}
 use lib.Seq.{getD-take}
-use Rattle.topics.specs.Patterns.{patternRefusal}
 use Rattle.laws.proofs.Tests.{both}
 use Rattle.laws.proofs.Lists.{take-min}
+use Rattle.topics.specs.Patterns.{patternRefusal}
 use Rattle.tables.specs.declared.rules.TopicRule.{TopicRule}
 use Rattle.tables.specs.Scan.{find}
 use Rattle.tables.specs.Rules.{patternOf, ruleFine, noRule}

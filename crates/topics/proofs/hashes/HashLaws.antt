@@ -10,9 +10,9 @@ use native.Mathlib.Omega.{arith}
 use lib.Dec.{leb}
 use lib.Pow.{pow-pos}
 use lib.ListN.{length, drop, replicate}
+use Rattle.laws.proofs.Folds.{fold-keeps}
 use Rattle.topics.specs.Hashes.{fnvStep, fnv1a, djbStep, djb2, suffixHash, clientHashes}
 use Rattle.topics.specs.Payload.{streamsOf, leBytes, wordBytes, payloadHash}
-use Rattle.laws.proofs.Folds.{fold-keeps}
 
 -- each hash fits 32 bits; request C-23, which writes them, waits for that
 pub fnv-lt : (s : List ℕ) → fnv1a s < 2 ^ 32

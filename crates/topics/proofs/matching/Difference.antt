@@ -3,12 +3,12 @@ use mathlib.Core.Bool.{Bool, true, false, not, _&&_, _||_, and-true, and-false, 
 use mathlib.Core.List.{List, [], _∷_}
 use mathlib.Core.Path.{_≡_, refl, sym, _∙_}
 use Prim.Native.Nat.{ℕ}
-use Rattle.topics.specs.Levels.{levels, isHash, isPlus}
 use Rattle.laws.specs.Lists.{none}
+use Rattle.laws.proofs.Cases.{by}
 use Rattle.slices.specs.Bytes.{same}
+use Rattle.topics.specs.Levels.{levels, isHash, isPlus}
 use Rattle.topics.specs.Meaning.{Difference}
 use Rattle.topics.specs.Matching.{matchLevels, standardRule, plusAtEmptyLast}
-use Rattle.laws.proofs.Cases.{by}
 use Rattle.topics.proofs.matching.Meaning.{meaning}
 
 neither : (a b m : Bool) → (not a && (m && not b)) ≡ (m && not (a || b))

@@ -9,10 +9,10 @@ use borrow.Author.Tests.{eq-eqb, ne-eqb}
 use lib.Dec.{eqb}
 use lib.ListN.{length, drop, getD, drop-of-length-le}
 use lib.Seq.{drop-drop}
-use Rattle.topics.specs.Matching.{fromSlash, takesNone, takesEnd, matchBytes}
 use Rattle.laws.proofs.Cases.{by}
 use Rattle.slices.specs.Bytes.{toByte, findByte}
 use Rattle.slices.proofs.bytes.WalkLaws.{opened}
+use Rattle.topics.specs.Matching.{fromSlash, takesNone, takesEnd, matchBytes}
 
 -- at the end of a list each definition knows its answer
 pub none-end : (p : List ℕ) (j : ℕ) → length p ≤ j → true ≡ takesNone (drop j p)

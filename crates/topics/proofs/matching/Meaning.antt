@@ -6,12 +6,12 @@ use mathlib.Core.Path.{_≡_, refl, sym, ap, _∙_}
 use Prim.Native.Nat.{ℕ}
 use borrow.Author.Tests.{eqb-true}
 use lib.Dec.{eqb}
-use Rattle.topics.specs.Levels.{firstLevel, restLevels, levels, levelEnds, isHash, isPlus}
 use Rattle.laws.specs.Lists.{none}
+use Rattle.laws.proofs.Cases.{by}
 use Rattle.slices.specs.Bytes.{same, startsWith}
+use Rattle.topics.specs.Levels.{firstLevel, restLevels, levels, levelEnds, isHash, isPlus}
 use Rattle.topics.specs.Meaning.{Meaning}
 use Rattle.topics.specs.Matching.{matchLevels, fromSlash, takesNone, takesEnd, matchBytes, dollarApart}
-use Rattle.laws.proofs.Cases.{by}
 use Rattle.topics.proofs.ByteLaws.{Sort, slash, hash, plus, other, sort, turned}
 use Rattle.topics.proofs.patterns.Placed.{placed, placed-levels}
 

@@ -6,11 +6,11 @@ use mathlib.Core.Path.{_≡_}
 use Prim.Native.Nat.{ℕ, _+_, _<_, _≤_}
 use lib.Dec.{eqb}
 use lib.ListN.{length, drop, getD, drop-of-length-le}
-use Rattle.slices.specs.Bytes.{has}
-use Rattle.topics.specs.Names.{badPublish}
 use Rattle.laws.proofs.Tests.{or-pairs}
 use Rattle.laws.proofs.Cases.{by}
+use Rattle.slices.specs.Bytes.{has}
 use Rattle.slices.proofs.bytes.WalkLaws.{opened}
+use Rattle.topics.specs.Names.{badPublish}
 
 -- a byte stands in a list where it is the first or stands in the rest
 has-cons : (c b : ℕ) (s : List ℕ) → has c (b ∷ s) ≡ (eqb b c || has c s)

@@ -9,11 +9,11 @@ use native.Mathlib.Omega.{arith}
 use borrow.Author.Tests.{ltb-false, le-ltb, lt-ltb, not-false}
 use lib.Dec.{ltb}
 use lib.ListN.{length}
-use Rattle.topics.specs.Levels.{levels}
-use Rattle.slices.specs.Bytes.{has, countOf}
-use Rattle.topics.specs.Patterns.{wellPlaced, validWildcards, patternRefusal}
 use Rattle.laws.specs.Lists.{none}
 use Rattle.laws.proofs.Tests.{never, neither}
+use Rattle.slices.specs.Bytes.{has, countOf}
+use Rattle.topics.specs.Levels.{levels}
+use Rattle.topics.specs.Patterns.{wellPlaced, validWildcards, patternRefusal}
 
 -- an empty pattern
 pub refused-empty : (p : List ℕ) → length p ≡ 0 → patternRefusal p ≡ 9

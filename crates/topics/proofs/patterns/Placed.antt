@@ -5,11 +5,11 @@ use mathlib.Core.List.{List, [], _∷_}
 use mathlib.Core.Path.{_≡_, refl}
 use Prim.Native.Nat.{ℕ}
 use lib.Dec.{eqb}
-use Rattle.topics.specs.Levels.{firstLevel, restLevels, levels, levelEnds}
 use Rattle.laws.specs.Lists.{none}
-use Rattle.slices.specs.Bytes.{same, has}
-use Rattle.topics.specs.Patterns.{isPlain, wellPlaced}
 use Rattle.laws.proofs.Cases.{by}
+use Rattle.slices.specs.Bytes.{same, has}
+use Rattle.topics.specs.Levels.{firstLevel, restLevels, levels, levelEnds}
+use Rattle.topics.specs.Patterns.{isPlain, wellPlaced}
 use Rattle.topics.proofs.ByteLaws.{Sort, slash, hash, plus, other, sort, turned}
 
 -- the wildcards of the rest of a pattern are well placed, where `fresh` says that a level begins with it

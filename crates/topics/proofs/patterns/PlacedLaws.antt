@@ -8,9 +8,9 @@ use native.Mathlib.Omega.{arith}
 use borrow.Author.Tests.{eq-eqb, ne-eqb}
 use lib.Dec.{eqb}
 use lib.ListN.{length, drop, getD, drop-of-length-le}
+use Rattle.slices.proofs.bytes.WalkLaws.{opened, none-left}
 use Rattle.topics.specs.Levels.{levelEnds}
 use Rattle.topics.specs.Patterns.{validWildcards}
-use Rattle.slices.proofs.bytes.WalkLaws.{opened, none-left}
 use Rattle.topics.proofs.patterns.Placed.{placed, placed-levels}
 
 -- the pattern test, from its start

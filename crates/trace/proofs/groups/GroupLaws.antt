@@ -8,11 +8,11 @@ use mathlib.Core.List.{List}
 use native.Mathlib.Omega.{arith}
 use lib.Dec.{eqb}
 use borrow.Author.Tests.{eqb-true, eqb-false, eq-eqb}
+use Rattle.laws.proofs.Cases.{by}
 use Rattle.slices.specs.Bytes.{bytes}
 use Rattle.lines.specs.Field.{numberField, wordField, hexField}
 use Rattle.lines.specs.ReadHex.{unhex}
 use Rattle.lines.specs.declared.read.Field.{Field}
-use Rattle.laws.proofs.Cases.{by}
 use Rattle.trace.specs.Groups.{openingStopped, opening1, opening2, openingOf, OpeningIn, ruleStopped, rule1, rule2, rule3, rule4, ruleAt, RuleIn}
 use Rattle.trace.specs.Groups.{messageStopped, message1, message2, message3, message4, message5, message6, message7, messageAt, MessageIn}
 use Rattle.trace.specs.Groups.{atLine, clockLine, typeLine, qosLine, topicLine, sizeLine, payloadLine}

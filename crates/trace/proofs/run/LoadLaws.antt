@@ -10,20 +10,20 @@ use native.Mathlib.Numerals.{sub-one}
 use lib.Dec.{eqb, leb}
 use lib.ListN.{length, set, replicate}
 use borrow.Author.Tests.{eq-eqb, ne-eqb, le-leb, lt-leb}
+use Rattle.laws.proofs.Cases.{whichever}
 use Rattle.tables.specs.Rules.{emptyRule, rulePlan}
 use Rattle.tables.specs.declared.rules.TopicAction.{TopicAction}
 use Rattle.tables.specs.declared.rules.TopicAction.the-variants.{Allow}
 use Rattle.tables.specs.declared.rules.TopicRule.{TopicRule}
+use Rattle.tables.specs.declared.rules.QosPolicy.{QosPolicy}
+use Rattle.tables.specs.declared.rules.RulePlan.{RulePlan}
 use Rattle.monitor.specs.Calls.{fresh, addRule}
 use Rattle.monitor.specs.Sound.{Sound}
 use Rattle.monitor.specs.State.{withRules}
-use Rattle.tables.specs.declared.rules.QosPolicy.{QosPolicy}
-use Rattle.tables.specs.declared.rules.RulePlan.{RulePlan}
 use Rattle.monitor.specs.declared.state.MqttMonitor.{MqttMonitor}
 use Rattle.monitor.proofs.rule_calls.AddLaws.{add-number, add-takes, add-leaves}
 use Rattle.monitor.proofs.PlainLaws.{holding, no-rules, Plain, fresh-plain, add-plain}
 use Rattle.monitor.proofs.SoundCalls.{sound-fresh, sound-add}
-use Rattle.laws.proofs.Cases.{whichever}
 use Rattle.trace.specs.Groups.{openingOf, ruleAt, patternIn}
 use Rattle.trace.specs.Trace.{Loaded, notLoaded, ruleInto, rulesInto, loadedFrom, loaded, rulesOf}
 use Rattle.trace.specs.declared.groups.OpeningLines.{OpeningLines}

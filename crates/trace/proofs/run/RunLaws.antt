@@ -10,11 +10,11 @@ use lib.Dec.{eqb, leb}
 use lib.ListN.{length, length-append}
 use lib.Seq.{sets, length-sets}
 use borrow.Author.Tests.{eqb-true, eq-eqb, ne-eqb, le-leb, lt-leb, leb-false}
-use Rattle.tables.specs.Rules.{ruleMatches}
-use Rattle.lines.specs.Wrote.{Wrote, placeAfter}
 use Rattle.laws.proofs.Cases.{by}
 use Rattle.laws.proofs.Fuel.{fuel}
+use Rattle.lines.specs.Wrote.{Wrote, placeAfter}
 use Rattle.lines.proofs.put.WroteLaws.{wrote-then}
+use Rattle.tables.specs.Rules.{ruleMatches}
 use Rattle.monitor.specs.Calls.{fresh}
 use Rattle.monitor.specs.Inspect.{applied, resultOf}
 use Rattle.monitor.specs.Plan.{planOf}

@@ -5,8 +5,8 @@ use lib.ListN.{length, drop}
 use borrow.Author.Needs.{needs}
 use borrow.Author.Tests.{not-true, not-false}
 use Rattle.laws.specs.Lists.{every}
-use Rattle.lines.specs.ReadHex.{isHex}
 use Rattle.laws.proofs.Every.{every-on, every-off, every-end}
+use Rattle.lines.specs.ReadHex.{isHex}
 use Rattle.lines.proofs.value.all_hex.Statement.{statement}
 use Rattle.lines.proofs.value.all_hex.Tie as tie
 

@@ -3,8 +3,8 @@
 use Prim.Native.Nat.{_-_, _≤_}
 use native.Mathlib.Omega.{arith}
 use borrow.Author.Needs.{needs}
-use Rattle.lines.specs.ReadHex.{isHex}
 use Rattle.laws.proofs.Every.{every-at}
+use Rattle.lines.specs.ReadHex.{isHex}
 use Rattle.lines.proofs.value.HexLaws.{Unhexed, unhexed-none, unhexed-next, unhexed-all, hex-taken}
 use Rattle.lines.proofs.value.put_unhex.Statement.{statement}
 use Rattle.lines.proofs.value.put_unhex.Tie as tie

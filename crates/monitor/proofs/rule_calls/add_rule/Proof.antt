@@ -1,8 +1,8 @@
 -- `rule_calls::add_rule` meets its contract: 10, or as its plan says. Assumes nothing.
 use mathlib.Core.Path.{_∙_}
 use borrow.Author.Needs.{needs}
-use Rattle.monitor.specs.Calls.{addRule}
 use Rattle.tables.proofs.rules.PlanLaws.{plan-place}
+use Rattle.monitor.specs.Calls.{addRule}
 use Rattle.monitor.proofs.rule_calls.AddLaws.{add-refused, add-stored}
 use Rattle.monitor.proofs.state.EndedLaws.{ended-10}
 use Rattle.monitor.proofs.rule_calls.add_rule.Statement.{statement}

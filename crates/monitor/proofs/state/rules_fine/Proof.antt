@@ -6,9 +6,9 @@ use native.Mathlib.Omega.{arith}
 use borrow.Author.Needs.{needs}
 use borrow.Author.Tests.{not-true, not-false}
 use lib.ListN.{length, take, drop}
-use Rattle.tables.specs.Rules.{ruleFine, noRule}
 use Rattle.laws.specs.Lists.{every}
 use Rattle.laws.proofs.Every.{front-not, front-next, front-done}
+use Rattle.tables.specs.Rules.{ruleFine, noRule}
 use Rattle.monitor.proofs.state.rules_fine.Statement.{statement}
 use Rattle.monitor.proofs.state.rules_fine.Tie as tie
 

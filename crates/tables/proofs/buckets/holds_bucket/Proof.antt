@@ -1,8 +1,8 @@
 -- `buckets::holds_bucket` meets its contract. Assumes nothing.
 use borrow.Author.Needs.{needs}
+use Rattle.laws.proofs.Tests.{guard-off, guard-on}
 use Rattle.tables.specs.Identity.{isOf}
 use Rattle.tables.specs.Buckets.{holdsBucket}
-use Rattle.laws.proofs.Tests.{guard-off, guard-on}
 use Rattle.tables.proofs.buckets.holds_bucket.Statement.{statement}
 use Rattle.tables.proofs.buckets.holds_bucket.Tie as tie
 

@@ -1,7 +1,7 @@
 -- `buckets::removes_bucket` meets its contract. Assumes nothing.
 use borrow.Author.Needs.{needs}
-use Rattle.tables.specs.Identity.{isRemoved}
 use Rattle.laws.proofs.Tests.{guard-off, guard-on}
+use Rattle.tables.specs.Identity.{isRemoved}
 use Rattle.tables.proofs.buckets.removes_bucket.Statement.{statement}
 use Rattle.tables.proofs.buckets.removes_bucket.Tie as tie
 

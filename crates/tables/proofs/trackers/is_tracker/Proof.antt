@@ -1,7 +1,7 @@
 -- `trackers::is_tracker` meets its contract: a free place is nobody's, and `is_of` decides of a guard-on one. Assumes nothing.
 use borrow.Author.Needs.{needs}
-use Rattle.tables.specs.Trackers.{holdsTracker}
 use Rattle.laws.proofs.Tests.{guard-off, guard-on}
+use Rattle.tables.specs.Trackers.{holdsTracker}
 use Rattle.tables.proofs.trackers.is_tracker.Statement.{statement}
 use Rattle.tables.proofs.trackers.is_tracker.Tie as tie
 

@@ -6,8 +6,8 @@ use Prim.Native.Nat.{_-_, _≤_}
 use native.Mathlib.Omega.{arith}
 use lib.ListN.{length, drop}
 use borrow.Author.Needs.{needs}
-use Rattle.topics.specs.Hashes.{djbStep, djb2}
 use Rattle.laws.proofs.Folds.{fold-on, fold-end}
+use Rattle.topics.specs.Hashes.{djbStep, djb2}
 use Rattle.topics.proofs.hashes.djb2_hash.Statement.{statement}
 use Rattle.topics.proofs.hashes.djb2_hash.Tie as tie
 

@@ -2,8 +2,8 @@
 -- Assumes nothing.
 use borrow.Author.Tests.{le-leb, lt-leb}
 use borrow.Author.Needs.{needs}
-use Rattle.topics.specs.Hashes.{suffixHash}
 use Rattle.laws.proofs.Lists.{tail-whole}
+use Rattle.topics.specs.Hashes.{suffixHash}
 use Rattle.topics.proofs.hashes.suffix_hash.Statement.{statement}
 use Rattle.topics.proofs.hashes.suffix_hash.Tie as tie
 

@@ -6,8 +6,8 @@ use Prim.Native.Nat.{_-_, _≤_}
 use native.Mathlib.Omega.{arith}
 use lib.ListN.{length, drop}
 use borrow.Author.Needs.{needs}
-use Rattle.topics.specs.Payload.{streamsStep, streamsOf}
 use Rattle.laws.proofs.Folds.{fold-on, fold-end}
+use Rattle.topics.specs.Payload.{streamsStep, streamsOf}
 use Rattle.topics.proofs.payload.streams_of.Statement.{statement}
 use Rattle.topics.proofs.payload.streams_of.Tie as tie
 

@@ -8,9 +8,9 @@ use native.Mathlib.Omega.{arith}
 use lib.ListN.{length, take}
 use lib.Seq.{length-take-le}
 use borrow.Author.Needs.{needs}
+use Rattle.tables.specs.Rules.{ruleMatches}
 use Rattle.monitor.specs.Inspect.{storedAt, applied}
 use Rattle.monitor.specs.State.{withCounters}
-use Rattle.tables.specs.Rules.{ruleMatches}
 use Rattle.monitor.proofs.plan.PlanLaws.{composed}
 use Rattle.monitor.proofs.inspection.ApplyLaws.{stored-yes, stored-no, withClients, withBuckets, withTrackers, stored-all}
 use Rattle.trace.specs.Groups.{topicIn, payloadIn}
