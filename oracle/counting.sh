@@ -10,7 +10,7 @@ original() {
 # host [--lto] NAME: builds a program of oracle/src over the original and the archive of hub, which is proved once a run.
 host() {
     if [ -z "${HUB_ARCHIVE-}" ]; then
-        rt staticlib hub >&2
+        oracle/archive hub >&2
         HUB_ARCHIVE=$root/target/staticlib
     fi
     original

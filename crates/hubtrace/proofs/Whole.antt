@@ -1,5 +1,5 @@
 -- A buffer of `enough` bytes holds the whole answer to any text: `run_trace` does not end in 28 there, and the bytes that it counts are all of
--- `traceText`. It stands on the bound of `trace` on that text. So they are what is answerTo to a text that was read to its end. Assumes nothing.
+-- `traceText`. It stands on the bound of `trace` on that text. So they are what is answered to a text that was read to its end. Assumes nothing.
 use Prim.Native.Nat.{ℕ, _+_, _≤_}
 use mathlib.Core.Path.{_≡_, sym, ap, _∙_}
 use mathlib.Core.List.{List}

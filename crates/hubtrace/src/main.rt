@@ -30,7 +30,7 @@ fn answer_buffer() -> [u8; 786432]
     [0; 786432]
 }
 
-// The answer to what was read at the beginning of `out`, and its length. There is room for all of it, so 28 never happens. A failed read is not answerTo.
+// The answer to what was read at the beginning of `out`, and its length. There is room for all of it, so 28 never happens. A failed read is not answered.
 fn answer(read: Done, text: &[u8], out: &mut [u8]) -> usize
     requires { ⌜ DoneWithin read (length (now text)) ⌝ }
     requires { ⌜ enough ≡ length (now out) ⌝ }
@@ -58,7 +58,7 @@ fn main() {
     let mut out = answer_buffer();
     let length = answer(read, &text, &mut out);
     match read {
-        Done::Failed => os::fail(b"hubtrace: the trace could not be read, so nothing was answerTo"),
+        Done::Failed => os::fail(b"hubtrace: the trace could not be read, so nothing was answered"),
         Done::Bytes(_) => print(&out[..length]),
     }
 }
