@@ -1,19 +1,23 @@
 # counting.sh: what the parts of bin/measure share that count instructions: hosts over the Rust original and an archive, and tables of what callgrind counts in
 # them, both sides on the same input in the same run. bin/measure reads it, in the repository's folder, with $room a folder for the run.
 
-# The original, built once a run.
+# The original, built once a run. What is counted is x86-64: the archive, the names that callgrind is told, the way in which a stack is painted.
 original() {
+    if [ "$(uname -m)" != x86_64 ]; then
+        echo 'measure: instructions and stacks are counted on x86-64 only; run this part there' >&2
+        exit 1
+    fi
     [ -e "$room/built" ] || oracle/build
     touch "$room/built"
 }
 
 # host [--lto] NAME: builds a program of oracle/src over the original and the archive of hub, which is proved once a run.
 host() {
+    original
     if [ -z "${HUB_ARCHIVE-}" ]; then
-        oracle/archive hub >&2
+        rt staticlib hub >&2
         HUB_ARCHIVE=$root/target/staticlib
     fi
-    original
     oracle/host "$@" "$HUB_ARCHIVE"
 }
 
