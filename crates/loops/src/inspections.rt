@@ -1,7 +1,7 @@
 // One loop owns the monitor and inspects message after message: each is planned and what was decided is stored in place; the rules are made in a table alone. Rules and times
 // are made from numbers, so that the Rust can be given the same; topics are lent, since what the compiler knows of them it computes beforehand.
 use monitor::alerts::count_on;
-use monitor::calls::new_deny_default;
+use monitor::calls::fresh;
 use monitor::message::MqttMessage;
 use monitor::message::MqttPacketType;
 use monitor::plan::plan_for;
@@ -139,7 +139,7 @@ fn readied(others: u32) -> MqttMonitor
 {
     let table = held(others);
     let rules = table.rules;
-    let mut m = new_deny_default();
+    let mut m = fresh(TopicAction::Block);
     m.rules = rules;
     m.rule_count = table.rule_count;
     m

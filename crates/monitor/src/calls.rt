@@ -21,7 +21,7 @@ ghost use Prim.Native.Nat.{min, max};
 ghost use Rattle.monitor.specs.Calls.{fresh, setStorm, removeBucket, removeTracker, resetState};
 
 // A monitor without rules, all places free, CONNECT threshold 5 in 60 seconds, ids from 1.
-fn fresh(default_action: TopicAction) -> MqttMonitor
+pub fn fresh(default_action: TopicAction) -> MqttMonitor
     ensures { λ r. ⌜ r ≡ fresh «default_action» ⌝ }
 {
     MqttMonitor {

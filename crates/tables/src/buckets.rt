@@ -4,10 +4,9 @@ use crate::identity::Id;
 use crate::identity::PREFIX;
 ghost use mathlib.Core.Path.{_≡_};
 ghost use Prim.Native.Nat.{_+_, _-_, _*_, _/_, min};
-ghost use mathlib.Core.Bool.{cond, not, _&&_};
+ghost use mathlib.Core.Bool.{cond, not};
 ghost use Rattle.tables.specs.Scan.{find, leastOf, leastPlace, any};
-ghost use Rattle.tables.specs.Identity.{isRemoved};
-ghost use Rattle.tables.specs.Buckets.{withTokens, refilled, takeToken, spend, isExpired, holdsBucket, made, newcomer, decide, removedBucket, emptyBucket, bucketFine};
+ghost use Rattle.tables.specs.Buckets.{withTokens, refilled, takeToken, spend, isExpired, made, newcomer, decide, removedBucket, emptyBucket, bucketFine};
 
 // How many token buckets a monitor holds.
 pub const BUCKETS: usize = 32;
@@ -159,17 +158,6 @@ fn less_one(rate: u16) -> u16
     rate - 1
 }
 
-// A live bucket of an identity.
-fn holds_bucket(id: Id, bucket: RateBucket) -> bool
-    ensures { λ r. ⌜ r ≡ holdsBucket id bucket ⌝ }
-{
-    if !bucket.active {
-        return false;
-    }
-    let held = bucket.id;
-    identity::is_of(id, held)
-}
-
 // A message of an identity whose bucket is held at a place.
 fn spent_at(at: usize, held: RateBucket, now_us: u64) -> RateDecision
     ensures { λ r. ⌜ r ≡ record { at = at; bucket = spend held «now_us» .bucket; result = cond (spend held «now_us» .ok) RateCheckResult.Allowed RateCheckResult.Limited } ⌝ }
@@ -196,8 +184,7 @@ fn find_free(buckets: [RateBucket; BUCKETS]) -> usize
 {
     let mut i = 0;
     while i < BUCKETS {
-        let bucket = buckets[i];
-        if !bucket.active {
+        if !buckets[i].active {
             return i;
         }
         i += 1;
@@ -209,16 +196,15 @@ fn find_free(buckets: [RateBucket; BUCKETS]) -> usize
 fn find_oldest(buckets: [RateBucket; BUCKETS]) -> usize
     ensures { λ r. ⌜ r ≡ leastPlace (leastOf (λ b. b .«last_refill_us») any buckets) ⌝ }
 {
-    let last = buckets[LAST];
     let mut at: usize = LAST;
-    let mut time = last.last_refill_us;
+    let mut time = buckets[LAST].last_refill_us;
     let mut i: usize = LAST;
     while 0 < i {
         i -= 1;
-        let bucket = buckets[i];
-        if bucket.last_refill_us <= time {
+        let then = buckets[i].last_refill_us;
+        if then <= time {
             at = i;
-            time = bucket.last_refill_us;
+            time = then;
         }
     }
     at
@@ -268,24 +254,27 @@ pub fn rate_limit_check(
 {
     let mut i = 0;
     while i < BUCKETS {
-        let bucket = buckets[i];
-        if holds_bucket(id, bucket) {
-            return spent_at(i, bucket, now_us);
-        }
+        let at = i;
         i += 1;
+        if identity::all_numbers_agree(
+            buckets[at].active,
+            buckets[at].id.len,
+            buckets[at].id.hash,
+            buckets[at].id.hash2,
+            buckets[at].id.suffix_hash,
+            id.len,
+            id.hash,
+            id.hash2,
+            id.suffix_hash,
+        ) {
+            let bucket = buckets[at];
+            let held = bucket.id;
+            if identity::first_bytes_agree(id, held) {
+                return spent_at(at, bucket, now_us);
+            }
+        }
     }
     newcomer(buckets, id, max_rate, now_us)
-}
-
-// A live bucket that the remove call asked for.
-fn removes_bucket(id: Id, bucket: RateBucket) -> bool
-    ensures { λ r. ⌜ r ≡ (bucket .active && isRemoved id (bucket .id)) ⌝ }
-{
-    if !bucket.active {
-        return false;
-    }
-    let held = bucket.id;
-    identity::is_removed(id, held)
 }
 
 // The place of the bucket that the remove call removes; 32 where it is not held.
@@ -294,11 +283,23 @@ pub fn removed_bucket(buckets: [RateBucket; BUCKETS], id: Id) -> usize
 {
     let mut i = 0;
     while i < BUCKETS {
-        let bucket = buckets[i];
-        if removes_bucket(id, bucket) {
-            return i;
-        }
+        let at = i;
         i += 1;
+        if identity::numbers_agree(
+            buckets[at].active,
+            buckets[at].id.len,
+            buckets[at].id.hash,
+            buckets[at].id.hash2,
+            id.len,
+            id.hash,
+            id.hash2,
+        ) {
+            let bucket = buckets[at];
+            let held = bucket.id;
+            if identity::prefixes_agree(id, held) {
+                return at;
+            }
+        }
     }
     i
 }

@@ -1,9 +1,12 @@
-// A topic's identity, made once a message, and the two tests of a held one against it (document 01, "Hashes"; 000 `matches_topic`, `make_topic_prefix`).
+// A topic's identity, made once a message, and the two tests of a held one against it, each in two steps: numbers, then first bytes (document 01, "Hashes"; 000
+// `matches_topic`, `make_topic_prefix`).
+ghost use mathlib.Core.Bool.{_&&_};
 ghost use mathlib.Core.Path.{_≡_};
 ghost use Prim.Native.Nat.{min};
+ghost use lib.Dec.{eqb};
 ghost use lib.ListN.{take};
 ghost use Rattle.slices.specs.Bytes.{same};
-ghost use Rattle.tables.specs.Identity.{prefixOf, idOf, isOf, isRemoved, emptyId};
+ghost use Rattle.tables.specs.Identity.{prefixOf, idOf, compared, emptyId};
 
 // How many of a topic's first bytes an identity keeps.
 pub const PREFIX: usize = 32;
@@ -61,40 +64,64 @@ fn same_prefix(a: [u8; PREFIX], b: [u8; PREFIX], n: usize) -> bool
     slices::bytes::same_bytes(&a[..cut], &b[..cut])
 }
 
-// A held identity is that of a topic: equal hashes, length, suffix hash and first bytes.
-pub fn is_of(id: Id, held: Id) -> bool
-    ensures { λ r. ⌜ r ≡ isOf id held ⌝ }
+// A live record has a topic's length, then its hashes: what a message and a removal ask first. All of it comes as numbers, so that a search takes them from where
+// they stand in its table, and copies no record before they agree.
+pub fn numbers_agree(
+    live: bool,
+    len: u16,
+    hash: u32,
+    hash2: u32,
+    id_len: u16,
+    id_hash: u32,
+    id_hash2: u32,
+) -> bool
+    ensures { λ r. ⌜ r ≡ (live && (eqb hash «id_hash» && eqb hash2 «id_hash2» && eqb len «id_len»)) ⌝ }
 {
-    if held.hash != id.hash {
+    if len != id_len {
         return false;
     }
-    if held.hash2 != id.hash2 {
+    if hash != id_hash {
         return false;
     }
-    if held.len != id.len {
+    if hash2 != id_hash2 {
         return false;
     }
-    if held.suffix_hash != id.suffix_hash {
-        return false;
+    live
+}
+
+// The same with the suffix hash, for a message.
+pub fn all_numbers_agree(
+    live: bool,
+    len: u16,
+    hash: u32,
+    hash2: u32,
+    suffix_hash: u32,
+    id_len: u16,
+    id_hash: u32,
+    id_hash2: u32,
+    id_suffix_hash: u32,
+) -> bool
+    ensures { λ r. ⌜ r ≡ (live && (eqb hash «id_hash» && eqb hash2 «id_hash2» && eqb len «id_len» && eqb «suffix_hash» «id_suffix_hash»)) ⌝ }
+{
+    if numbers_agree(live, len, hash, hash2, id_len, id_hash, id_hash2) {
+        return suffix_hash == id_suffix_hash;
     }
+    false
+}
+
+// What is left to ask for a message: the first bytes, as many as the record keeps and no more than the topic has.
+pub fn first_bytes_agree(id: Id, held: Id) -> bool
+    ensures { λ r. ⌜ r ≡ same (take (compared held id) (held .prefix)) (take (compared held id) (id .prefix)) ⌝ }
+{
     let a = held.prefix;
     let b = id.prefix;
     same_prefix(a, b, least(id.len as usize, held.prefix_len as usize))
 }
 
-// The test of the two remove calls: no suffix hash, and all 32 bytes.
-pub fn is_removed(id: Id, held: Id) -> bool
-    ensures { λ r. ⌜ r ≡ isRemoved id held ⌝ }
+// What is left to ask for a removal: all 32 bytes.
+pub fn prefixes_agree(id: Id, held: Id) -> bool
+    ensures { λ r. ⌜ r ≡ same (held .prefix) (id .prefix) ⌝ }
 {
-    if held.hash != id.hash {
-        return false;
-    }
-    if held.hash2 != id.hash2 {
-        return false;
-    }
-    if held.len != id.len {
-        return false;
-    }
     let a = held.prefix;
     let b = id.prefix;
     same_prefix(a, b, PREFIX)

@@ -1,15 +1,16 @@
 // Payload trackers (document 01, "CONNECT windows and payload trackers"; 000 `EwmaTracker`, `ewma_update`).
 use crate::identity::Id;
 use crate::identity::PREFIX;
+use crate::identity::all_numbers_agree;
 use crate::identity::empty_id;
-use crate::identity::is_of;
-use crate::identity::is_removed;
-ghost use mathlib.Core.Bool.{_&&_, not};
+use crate::identity::first_bytes_agree;
+use crate::identity::numbers_agree;
+use crate::identity::prefixes_agree;
+ghost use mathlib.Core.Bool.{not};
 ghost use mathlib.Core.Path.{_≡_};
 ghost use Prim.Native.Nat.{_+_, _*_, _/_, min};
-ghost use Rattle.tables.specs.Identity.{isRemoved};
 ghost use Rattle.tables.specs.Scan.{find, leastOf, leastPlace, any, seat};
-ghost use Rattle.tables.specs.Trackers.{saturated, meanAfter, threshold, isAnomaly, fed, freshTracker, holdsTracker, feedAt, feed, removedTracker, emptyTracker, trackerFine};
+ghost use Rattle.tables.specs.Trackers.{saturated, meanAfter, threshold, isAnomaly, fed, freshTracker, feedAt, feed, removedTracker, emptyTracker, trackerFine};
 
 // How many payload trackers a monitor holds.
 pub const TRACKERS: usize = 16;
@@ -133,36 +134,13 @@ fn fresh_tracker(id: Id) -> EwmaTracker
     }
 }
 
-// A live tracker of an identity.
-fn is_tracker(tracker: EwmaTracker, id: Id) -> bool
-    ensures { λ r. ⌜ r ≡ holdsTracker id tracker ⌝ }
-{
-    if !tracker.active {
-        return false;
-    }
-    let held = tracker.id;
-    is_of(id, held)
-}
-
-// A live tracker that a remove call means.
-fn is_removed_tracker(tracker: EwmaTracker, id: Id) -> bool
-    ensures { λ r. ⌜ r ≡ (tracker .active && isRemoved id (tracker .id)) ⌝ }
-{
-    if !tracker.active {
-        return false;
-    }
-    let held = tracker.id;
-    is_removed(id, held)
-}
-
 // The first free place; 16 where there is none.
 fn find_free(trackers: [EwmaTracker; TRACKERS]) -> usize
     ensures { λ r. ⌜ r ≡ find (λ k. not (k .active)) trackers ⌝ }
 {
     let mut i: usize = 0;
     while i < TRACKERS {
-        let tracker = trackers[i];
-        if !tracker.active {
+        if !trackers[i].active {
             return i;
         }
         i += 1;
@@ -174,15 +152,14 @@ fn find_free(trackers: [EwmaTracker; TRACKERS]) -> usize
 fn find_oldest(trackers: [EwmaTracker; TRACKERS]) -> usize
     ensures { λ r. ⌜ r ≡ leastPlace (leastOf (λ k. k .«last_update_us») any trackers) ⌝ }
 {
-    let last = trackers[LAST];
-    let mut time = last.last_update_us;
+    let mut time = trackers[LAST].last_update_us;
     let mut at: usize = LAST;
     let mut i: usize = LAST;
     while 0 < i {
         i -= 1;
-        let tracker = trackers[i];
-        if tracker.last_update_us <= time {
-            time = tracker.last_update_us;
+        let then = trackers[i].last_update_us;
+        if then <= time {
+            time = then;
             at = i;
         }
     }
@@ -224,11 +201,25 @@ pub fn ewma_update(
 {
     let mut i: usize = 0;
     while i < TRACKERS {
-        let tracker = trackers[i];
-        if is_tracker(tracker, id) {
-            return feed_at(i, tracker, payload_len, now_us);
-        }
+        let at = i;
         i += 1;
+        if all_numbers_agree(
+            trackers[at].active,
+            trackers[at].id.len,
+            trackers[at].id.hash,
+            trackers[at].id.hash2,
+            trackers[at].id.suffix_hash,
+            id.len,
+            id.hash,
+            id.hash2,
+            id.suffix_hash,
+        ) {
+            let tracker = trackers[at];
+            let held = tracker.id;
+            if first_bytes_agree(id, held) {
+                return feed_at(at, tracker, payload_len, now_us);
+            }
+        }
     }
     let at = find_seat(trackers);
     feed_at(at, fresh_tracker(id), payload_len, now_us)
@@ -240,11 +231,23 @@ pub fn removed_tracker(trackers: [EwmaTracker; TRACKERS], id: Id) -> usize
 {
     let mut i: usize = 0;
     while i < TRACKERS {
-        let tracker = trackers[i];
-        if is_removed_tracker(tracker, id) {
-            return i;
-        }
+        let at = i;
         i += 1;
+        if numbers_agree(
+            trackers[at].active,
+            trackers[at].id.len,
+            trackers[at].id.hash,
+            trackers[at].id.hash2,
+            id.len,
+            id.hash,
+            id.hash2,
+        ) {
+            let tracker = trackers[at];
+            let held = tracker.id;
+            if prefixes_agree(id, held) {
+                return at;
+            }
+        }
     }
     i
 }

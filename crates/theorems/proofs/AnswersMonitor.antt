@@ -8,6 +8,8 @@ use Rattle.monitor.proofs.alerts.count_on as alerts-count-on
 use Rattle.monitor.proofs.alerts.count_on.Reads as alerts-count-on-reads
 use Rattle.monitor.proofs.alerts.raise_all as alerts-raise-all
 use Rattle.monitor.proofs.alerts.raise_all.Reads as alerts-raise-all-reads
+use Rattle.monitor.proofs.calls.fresh as calls-fresh
+use Rattle.monitor.proofs.calls.fresh.Reads as calls-fresh-reads
 use Rattle.monitor.proofs.calls.new as calls-new
 use Rattle.monitor.proofs.calls.new.Reads as calls-new-reads
 use Rattle.monitor.proofs.calls.new_deny_default as calls-new-deny-default
@@ -85,6 +87,12 @@ one-alerts-raise-all κs a x y e f p q = p ∙ sym q
 
 pub any-alerts-raise-all : Any alerts-raise-all.ended alerts-raise-all-reads.Asked
 any-alerts-raise-all κs a = tt
+
+pub one-calls-fresh : One calls-fresh.ended calls-fresh-reads.Post
+one-calls-fresh κs a x y e f p q = p ∙ sym q
+
+pub any-calls-fresh : Any calls-fresh.ended calls-fresh-reads.Asked
+any-calls-fresh κs a = tt
 
 pub one-calls-new : One calls-new.ended calls-new-reads.Post
 one-calls-new κs a x y e f p q = p ∙ sym q

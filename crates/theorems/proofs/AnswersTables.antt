@@ -17,10 +17,14 @@ use Rattle.tables.proofs.buckets.bucket_fine as buckets-bucket-fine
 use Rattle.tables.proofs.buckets.bucket_fine.Reads as buckets-bucket-fine-reads
 use Rattle.tables.proofs.identity.id_of as identity-id-of
 use Rattle.tables.proofs.identity.id_of.Reads as identity-id-of-reads
-use Rattle.tables.proofs.identity.is_of as identity-is-of
-use Rattle.tables.proofs.identity.is_of.Reads as identity-is-of-reads
-use Rattle.tables.proofs.identity.is_removed as identity-is-removed
-use Rattle.tables.proofs.identity.is_removed.Reads as identity-is-removed-reads
+use Rattle.tables.proofs.identity.numbers_agree as identity-numbers-agree
+use Rattle.tables.proofs.identity.numbers_agree.Reads as identity-numbers-agree-reads
+use Rattle.tables.proofs.identity.all_numbers_agree as identity-all-numbers-agree
+use Rattle.tables.proofs.identity.all_numbers_agree.Reads as identity-all-numbers-agree-reads
+use Rattle.tables.proofs.identity.first_bytes_agree as identity-first-bytes-agree
+use Rattle.tables.proofs.identity.first_bytes_agree.Reads as identity-first-bytes-agree-reads
+use Rattle.tables.proofs.identity.prefixes_agree as identity-prefixes-agree
+use Rattle.tables.proofs.identity.prefixes_agree.Reads as identity-prefixes-agree-reads
 use Rattle.tables.proofs.identity.empty_id as identity-empty-id
 use Rattle.tables.proofs.identity.empty_id.Reads as identity-empty-id-reads
 use Rattle.tables.proofs.rules.empty_rule as rules-empty-rule
@@ -118,17 +122,29 @@ one-identity-id-of κs a x y e f p q = p ∙ sym q
 pub any-identity-id-of : Any identity-id-of.ended identity-id-of-reads.Asked
 any-identity-id-of κs a = tt
 
-pub one-identity-is-of : One identity-is-of.ended identity-is-of-reads.Post
-one-identity-is-of κs a x y e f p q = p ∙ sym q
+pub one-identity-numbers-agree : One identity-numbers-agree.ended identity-numbers-agree-reads.Post
+one-identity-numbers-agree κs a x y e f p q = p ∙ sym q
 
-pub any-identity-is-of : Any identity-is-of.ended identity-is-of-reads.Asked
-any-identity-is-of κs a = tt
+pub any-identity-numbers-agree : Any identity-numbers-agree.ended identity-numbers-agree-reads.Asked
+any-identity-numbers-agree κs a = tt
 
-pub one-identity-is-removed : One identity-is-removed.ended identity-is-removed-reads.Post
-one-identity-is-removed κs a x y e f p q = p ∙ sym q
+pub one-identity-all-numbers-agree : One identity-all-numbers-agree.ended identity-all-numbers-agree-reads.Post
+one-identity-all-numbers-agree κs a x y e f p q = p ∙ sym q
 
-pub any-identity-is-removed : Any identity-is-removed.ended identity-is-removed-reads.Asked
-any-identity-is-removed κs a = tt
+pub any-identity-all-numbers-agree : Any identity-all-numbers-agree.ended identity-all-numbers-agree-reads.Asked
+any-identity-all-numbers-agree κs a = tt
+
+pub one-identity-first-bytes-agree : One identity-first-bytes-agree.ended identity-first-bytes-agree-reads.Post
+one-identity-first-bytes-agree κs a x y e f p q = p ∙ sym q
+
+pub any-identity-first-bytes-agree : Any identity-first-bytes-agree.ended identity-first-bytes-agree-reads.Asked
+any-identity-first-bytes-agree κs a = tt
+
+pub one-identity-prefixes-agree : One identity-prefixes-agree.ended identity-prefixes-agree-reads.Post
+one-identity-prefixes-agree κs a x y e f p q = p ∙ sym q
+
+pub any-identity-prefixes-agree : Any identity-prefixes-agree.ended identity-prefixes-agree-reads.Asked
+any-identity-prefixes-agree κs a = tt
 
 pub one-identity-empty-id : One identity-empty-id.ended identity-empty-id-reads.Post
 one-identity-empty-id κs a x y e f p q = p ∙ sym q

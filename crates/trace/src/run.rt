@@ -9,8 +9,7 @@ use crate::record::put_record;
 use crate::record::record_len;
 use monitor::alerts::MqttInspectResult;
 use monitor::alerts::count_on;
-use monitor::calls::new;
-use monitor::calls::new_deny_default;
+use monitor::calls::fresh;
 use monitor::gate::gate_for;
 use monitor::message::PAYLOAD_MAX;
 use monitor::message::TOPIC_MAX;
@@ -33,7 +32,6 @@ ghost use mathlib.Core.Path.{_≡_};
 ghost use Prim.Native.Nat.{_+_, _*_, _≤_};
 ghost use lib.Dec.{leb};
 ghost use lib.ListN.{length};
-ghost use Rattle.monitor.specs.Calls.{fresh};
 ghost use Rattle.trace.specs.Record.{recordText, closingText};
 ghost use Rattle.trace.specs.Trace.{loaded, rulesOf, traceText, enough, putIf, wholeEnd, traceEnd, traceKept};
 
@@ -56,16 +54,6 @@ pub struct LoadedRules {
     pub default_action: TopicAction,
     pub rule_count: u16,
     pub rules: [TopicRule; RULES],
-}
-
-// A monitor without rules, by its default.
-fn started(default_action: TopicAction) -> MqttMonitor
-    ensures { λ r. ⌜ r ≡ fresh «default_action» ⌝ }
-{
-    match default_action {
-        TopicAction::Allow => new(),
-        TopicAction::Block => new_deny_default(),
-    }
 }
 
 // A buffer for a pattern or a topic.
@@ -218,7 +206,7 @@ fn pass(text: &[u8], out: &mut [u8], write: bool) -> TraceEnd
     let start = load(text);
     let default_action = start.default_action;
     let rules = start.rules;
-    let mut m = started(default_action);
+    let mut m = fresh(default_action);
     m.rules = rules;
     m.rule_count = start.rule_count;
     let mut at = start.next;

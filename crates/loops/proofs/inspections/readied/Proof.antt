@@ -7,11 +7,11 @@ use Rattle.loops.proofs.inspections.readied.Tie as tie
 held-requires : tie.Need-held-requires
 held-requires c κs = search needs
 
-new-deny-default-requires : tie.Need-new-deny-default-requires
-new-deny-default-requires c κs = search needs
+fresh-requires : tie.Need-fresh-requires
+fresh-requires c κs = search needs
 
 returns : tie.Need-returns
-returns c = held-start _ (c .new-deny-default .ensures) (c .before .before .held .ensures)
+returns c = held-start _ (c .fresh .ensures) (c .before .before .held .ensures)
 
 pub readied-spec : {M : Type 1} → statement M
-readied-spec = tie.close (tie.spec held-requires new-deny-default-requires returns)
+readied-spec = tie.close (tie.spec held-requires fresh-requires returns)

@@ -21,15 +21,15 @@ abbrev μ-loop : tie.MeasureT-loop
 loop-holds : tie.Need-loop-holds Inv-loop μ-loop
 loop-holds c = search needs
 
-mul-bucket : tie.Need-mul-bucket Inv-loop μ-loop
-mul-bucket c = search needs
+mul-if1 : tie.Need-mul-if1 Inv-loop μ-loop
+mul-if1 c = search needs
 
-array-copy-out-bucket : tie.Need-array-copy-out-bucket Inv-loop μ-loop
-array-copy-out-bucket c = search needs
+element-copy-out-if1 : tie.Need-element-copy-out-if1 Inv-loop μ-loop
+element-copy-out-if1 c = search needs
 
 returns : tie.Need-returns Inv-loop μ-loop
 returns c =
-    let l = c .before .before .before .before in
+    let l = c .before .before in
     let n : length (l .before .args .t1) ≡ 32 = search needs in
     find-here _ _ noBucket (omega arith) (l .loop .inv .1) (c .if1 .taken)
 
@@ -41,7 +41,7 @@ loop-less c = search needs
 
 loop-again : tie.Need-loop-again Inv-loop μ-loop
 loop-again c =
-    let l = c .before .before .before .before in
+    let l = c .before .before in
     let n : length (l .before .args .t1) ≡ 32 = search needs in
     (omega arith, find-next _ _ noBucket (omega arith) (l .loop .inv .1) (c .if1 .left))
 
@@ -52,4 +52,4 @@ returns-2 c =
 
 pub find-free-spec : {M : Type 1} → statement M
 find-free-spec =
-    tie.close (tie.spec Inv-loop μ-loop loop-holds mul-bucket array-copy-out-bucket returns add-i loop-less loop-again returns-2)
+    tie.close (tie.spec Inv-loop μ-loop loop-holds mul-if1 element-copy-out-if1 returns add-i loop-less loop-again returns-2)

@@ -1,14 +1,15 @@
--- `buckets::removed_bucket` meets its contract. The invariant: `i` is at most 32, and what is sought in the whole table stands `i` places further than in what is left
--- of it from `i` on. The measure is what is left of 32. Assumes nothing.
-use mathlib.Core.Path.{_≡_, sym, _∙_}
-use mathlib.Core.Bool.{_&&_}
-use Prim.Native.Nat.{_≤_, _-_, _+_}
-use native.Mathlib.Omega.{arith}
-use lib.ListN.{length, drop}
+-- `buckets::removed_bucket` meets its contract. The invariant: the search goes on behind the places passed. The measure is what is left of the table.
+-- Assumes nothing.
 use borrow.Author.Needs.{needs}
+use mathlib.Core.Bool.{_&&_}
+use mathlib.Core.Path.{_≡_}
+use Prim.Native.Nat.{_+_, _-_, _≤_}
+use native.Mathlib.Omega.{arith}
+use lib.ListN.{length, drop, getD}
 use Rattle.tables.specs.Scan.{find}
 use Rattle.tables.specs.Buckets.{noBucket, removedBucket}
 use Rattle.tables.specs.Identity.{isRemoved}
+use Rattle.tables.proofs.identity.AgreeLaws.{not-removed, removed-prefix}
 use Rattle.tables.proofs.ScanLaws.{find-here, find-next, find-done}
 use Rattle.tables.proofs.buckets.removed_bucket.Statement.{statement}
 use Rattle.tables.proofs.buckets.removed_bucket.Tie as tie
@@ -22,24 +23,54 @@ abbrev μ-loop : tie.MeasureT-loop
 loop-holds : tie.Need-loop-holds Inv-loop μ-loop
 loop-holds c = search needs
 
+add-i : tie.Need-add-i Inv-loop μ-loop
+add-i c = search needs
+
+mul-numbers-agree : tie.Need-mul-numbers-agree Inv-loop μ-loop
+mul-numbers-agree c = search needs
+
+element-copy-out-numbers-agree : tie.Need-element-copy-out-numbers-agree Inv-loop μ-loop
+element-copy-out-numbers-agree c = search needs
+
+mul-numbers-agree-2 : tie.Need-mul-numbers-agree-2 Inv-loop μ-loop
+mul-numbers-agree-2 c = search needs
+
+element-copy-out-numbers-agree-2 : tie.Need-element-copy-out-numbers-agree-2 Inv-loop μ-loop
+element-copy-out-numbers-agree-2 c = search needs
+
+mul-numbers-agree-3 : tie.Need-mul-numbers-agree-3 Inv-loop μ-loop
+mul-numbers-agree-3 c = search needs
+
+element-copy-out-numbers-agree-3 : tie.Need-element-copy-out-numbers-agree-3 Inv-loop μ-loop
+element-copy-out-numbers-agree-3 c = search needs
+
+mul-numbers-agree-4 : tie.Need-mul-numbers-agree-4 Inv-loop μ-loop
+mul-numbers-agree-4 c = search needs
+
+element-copy-out-numbers-agree-4 : tie.Need-element-copy-out-numbers-agree-4 Inv-loop μ-loop
+element-copy-out-numbers-agree-4 c = search needs
+
+numbers-agree-requires : tie.Need-numbers-agree-requires Inv-loop μ-loop
+numbers-agree-requires c κs = search needs
+
 mul-bucket : tie.Need-mul-bucket Inv-loop μ-loop
 mul-bucket c = search needs
 
 array-copy-out-bucket : tie.Need-array-copy-out-bucket Inv-loop μ-loop
 array-copy-out-bucket c = search needs
 
-removes-bucket-requires : tie.Need-removes-bucket-requires Inv-loop μ-loop
-removes-bucket-requires c κs = search needs
+prefixes-agree-requires : tie.Need-prefixes-agree-requires Inv-loop μ-loop
+prefixes-agree-requires c κs = search needs
 
 returns : tie.Need-returns Inv-loop μ-loop
 unfolding removedBucket
 returns c =
-    let l = c .before .before .before .before in
+    let t = c .before .before .before .before in
+    let l = t .before .before .before in
     let n : length (l .before .args .t1) ≡ 32 = search needs in
-    find-here _ _ noBucket (omega arith) (l .loop .inv .1) (sym (c .before .removes-bucket .ensures) ∙ c .if1 .taken)
-
-add-i : tie.Need-add-i Inv-loop μ-loop
-add-i c = search needs
+    let b = getD (l .before .args .t1) (l .loop .i) noBucket in
+    let told = removed-prefix (l .before .args .id) (b .id) (b .active) (t .before .numbers-agree .ensures) (t .if1 .taken) (c .before .prefixes-agree .ensures) (c .if2 .taken) in
+    find-here _ _ noBucket (omega arith) (l .loop .inv .1) told
 
 loop-less : tie.Need-loop-less Inv-loop μ-loop
 loop-less c = search needs
@@ -47,16 +78,36 @@ loop-less c = search needs
 loop-again : tie.Need-loop-again Inv-loop μ-loop
 unfolding removedBucket
 loop-again c =
-    let l = c .before .before .before .before in
+    let t = c .before .before .before .before in
+    let l = t .before .before .before in
     let n : length (l .before .args .t1) ≡ 32 = search needs in
-    (omega arith, find-next _ _ noBucket (omega arith) (l .loop .inv .1) (sym (c .before .removes-bucket .ensures) ∙ c .if1 .left))
+    let b = getD (l .before .args .t1) (l .loop .i) noBucket in
+    let told = removed-prefix (l .before .args .id) (b .id) (b .active) (t .before .numbers-agree .ensures) (t .if1 .taken) (c .before .prefixes-agree .ensures) (c .if2 .left) in
+    (omega arith, find-next _ _ noBucket (omega arith) (l .loop .inv .1) told)
+
+loop-less-2 : tie.Need-loop-less-2 Inv-loop μ-loop
+loop-less-2 c = search needs
+
+loop-again-2 : tie.Need-loop-again-2 Inv-loop μ-loop
+unfolding removedBucket
+loop-again-2 c =
+    let l = c .before .before .before in
+    let n : length (l .before .args .t1) ≡ 32 = search needs in
+    let b = getD (l .before .args .t1) (l .loop .i) noBucket in
+    let told = not-removed (l .before .args .id) (b .id) (b .active) (c .before .numbers-agree .ensures) (c .if1 .left) in
+    (omega arith, find-next _ _ noBucket (omega arith) (l .loop .inv .1) told)
 
 returns-2 : tie.Need-returns-2 Inv-loop μ-loop
 unfolding removedBucket
 returns-2 c =
     let l = c .before in
-    let n : length (l .before .args .t1) ≡ 32 = search needs in find-done _ _ (omega arith) (omega arith) (l .loop .inv .1)
+    let n : length (l .before .args .t1) ≡ 32 = search needs in
+    find-done _ _ (omega arith) (omega arith) (l .loop .inv .1)
 
 pub removed-bucket-spec : {M : Type 1} → statement M
 removed-bucket-spec =
-    tie.close (tie.spec Inv-loop μ-loop loop-holds mul-bucket array-copy-out-bucket removes-bucket-requires returns add-i loop-less loop-again returns-2)
+    tie.close
+    (tie.spec
+    Inv-loop μ-loop loop-holds add-i mul-numbers-agree element-copy-out-numbers-agree mul-numbers-agree-2 element-copy-out-numbers-agree-2
+    mul-numbers-agree-3 element-copy-out-numbers-agree-3 mul-numbers-agree-4 element-copy-out-numbers-agree-4 numbers-agree-requires mul-bucket
+    array-copy-out-bucket prefixes-agree-requires returns loop-less loop-again loop-less-2 loop-again-2 returns-2)

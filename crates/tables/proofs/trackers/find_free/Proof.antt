@@ -21,16 +21,16 @@ abbrev μ-loop : tie.MeasureT-loop
 loop-holds : tie.Need-loop-holds Inv-loop μ-loop
 loop-holds c = search needs
 
-mul-tracker : tie.Need-mul-tracker Inv-loop μ-loop
-mul-tracker c = search needs
+mul-if1 : tie.Need-mul-if1 Inv-loop μ-loop
+mul-if1 c = search needs
 
-array-copy-out-tracker : tie.Need-array-copy-out-tracker Inv-loop μ-loop
-array-copy-out-tracker c = search needs
+element-copy-out-if1 : tie.Need-element-copy-out-if1 Inv-loop μ-loop
+element-copy-out-if1 c = search needs
 
 returns : tie.Need-returns Inv-loop μ-loop
 returns c =
-    let n : length (c .before .before .before .before .before .args .t1) ≡ 16 = search needs in
-    find-here _ _ noTracker (omega arith) (c .before .before .before .before .loop .inv .1) (c .if1 .taken)
+    let n : length (c .before .before .before .args .t1) ≡ 16 = search needs in
+    find-here _ _ noTracker (omega arith) (c .before .before .loop .inv .1) (c .if1 .taken)
 
 add-i : tie.Need-add-i Inv-loop μ-loop
 add-i c = search needs
@@ -40,8 +40,8 @@ loop-less c = search needs
 
 loop-again : tie.Need-loop-again Inv-loop μ-loop
 loop-again c =
-    let n : length (c .before .before .before .before .before .args .t1) ≡ 16 = search needs in
-    (omega arith, find-next _ _ noTracker (omega arith) (c .before .before .before .before .loop .inv .1) (c .if1 .left))
+    let n : length (c .before .before .before .args .t1) ≡ 16 = search needs in
+    (omega arith, find-next _ _ noTracker (omega arith) (c .before .before .loop .inv .1) (c .if1 .left))
 
 returns-2 : tie.Need-returns-2 Inv-loop μ-loop
 returns-2 c =
@@ -50,4 +50,4 @@ returns-2 c =
 
 pub find-free-spec : {M : Type 1} → statement M
 find-free-spec =
-    tie.close (tie.spec Inv-loop μ-loop loop-holds mul-tracker array-copy-out-tracker returns add-i loop-less loop-again returns-2)
+    tie.close (tie.spec Inv-loop μ-loop loop-holds mul-if1 element-copy-out-if1 returns add-i loop-less loop-again returns-2)

@@ -35,11 +35,11 @@ abbrev μ-loop : tie.MeasureT-loop
 abbrev at-start : tie.After-load Inv-loop μ-loop → tie.Start Inv-loop μ-loop
 at-start c = c .before .before .before
 
-abbrev at-load : tie.After-started Inv-loop μ-loop → tie.After-load Inv-loop μ-loop
+abbrev at-load : tie.After-fresh Inv-loop μ-loop → tie.After-load Inv-loop μ-loop
 at-load c = c .before .before
 
-abbrev at-started : tie.At-loop Inv-loop μ-loop → tie.After-started Inv-loop μ-loop
-at-started c = c .before .before .before .before .before
+abbrev at-fresh : tie.At-loop Inv-loop μ-loop → tie.After-fresh Inv-loop μ-loop
+at-fresh c = c .before .before .before .before .before
 
 -- in a turn: its test, its head, the message is read, it is not refused, its gate is known, its plan is made
 abbrev at-test : tie.After-read-message Inv-loop μ-loop → tie.In-loop Inv-loop μ-loop
@@ -71,15 +71,15 @@ abbrev at-stored : tie.After-slice-known4 Inv-loop μ-loop → tie.Joined5 Inv-l
 at-stored c = c .before .before .before .before .before .before
 
 -- where the rules are refused, and where a message is
-abbrev started-of : tie.Then1 Inv-loop μ-loop → tie.After-started Inv-loop μ-loop
-started-of c = c .before .before
+abbrev fresh-of : tie.Then1 Inv-loop μ-loop → tie.After-fresh Inv-loop μ-loop
+fresh-of c = c .before .before
 
 abbrev read-of : tie.Then2 Inv-loop μ-loop → tie.After-read-message Inv-loop μ-loop
 read-of c = c .before .before
 
 -- from the loop's head, from the plan, and from where all is stored
 abbrev start-of : tie.At-loop Inv-loop μ-loop → tie.Start Inv-loop μ-loop
-start-of c = at-start (at-load (at-started c))
+start-of c = at-start (at-load (at-fresh c))
 
 abbrev message-of : tie.After-plan-from Inv-loop μ-loop → tie.Else2 Inv-loop μ-loop
 message-of c = at-message (at-gate (c .before .before))
@@ -100,22 +100,22 @@ group c = c .read-message .result
 load-requires : tie.Need-load-requires Inv-loop μ-loop
 load-requires c κs = search needs
 
-started-requires : tie.Need-started-requires Inv-loop μ-loop
-started-requires c κs = search needs
+fresh-requires : tie.Need-fresh-requires Inv-loop μ-loop
+fresh-requires c κs = search needs
 
 -- where the rules are refused a trace has only its closing lines
 unloaded : (c : tie.Then1 Inv-loop μ-loop)
-    → let started = started-of c in
-    let loaded = at-load started in
+    → let fresh = fresh-of c in
+    let loaded = at-load fresh in
     traceText (at-start loaded .args .text .now)
-    ≡ closingText (loaded .load .result .number) (loaded .load .result .line) (started .started .result .«total_inspected») (started .started .result .«total_alerts»)
+    ≡ closingText (loaded .load .result .number) (loaded .load .result .line) (fresh .fresh .result .«total_inspected») (fresh .fresh .result .«total_alerts»)
 unloaded c =
-    let started = started-of c in
-    unloaded-text _ (at-load started .load .ensures) (started .started .ensures) (c .if1 .taken)
+    let fresh = fresh-of c in
+    unloaded-text _ (at-load fresh .load .ensures) (fresh .fresh .ensures) (c .if1 .taken)
 
 pass-closing-requires : tie.Need-pass-closing-requires Inv-loop μ-loop
 pass-closing-requires c κs =
-    (omega arith, λ w. omega (arith, at-start (at-load (started-of (c .before))) .pre w, ap length (unloaded (c .before))))
+    (omega arith, λ w. omega (arith, at-start (at-load (fresh-of (c .before))) .pre w, ap length (unloaded (c .before))))
 
 same-length : tie.Need-same-length Inv-loop μ-loop
 same-length c = c .before .before .pass-closing .kept .0
@@ -124,8 +124,8 @@ returns : tie.Need-returns Inv-loop μ-loop
 returns c =
     let closed = c .before .before in
     let refused = closed .before .before in
-    let started = started-of refused in (
-      unloaded-end _ (at-load started .load .ensures) (started .started .ensures) (refused .if1 .taken) (closed .pass-closing .ensures .0),
+    let fresh = fresh-of refused in (
+      unloaded-end _ (at-load fresh .load .ensures) (fresh .fresh .ensures) (refused .if1 .taken) (closed .pass-closing .ensures .0),
       rw (unloaded refused) (closed .pass-closing .ensures .1),
     )
 
@@ -138,8 +138,8 @@ buffer-256-requires c κs = search needs
 loop-holds : tie.Need-loop-holds Inv-loop μ-loop
 loop-holds c =
     let good = c .before .before in
-    let started = good .before .before in
-    (going-start _ (at-load started .load .ensures) (started .started .ensures) _ _ (good .if1 .left), c .before .buffer-128 .ensures, c .buffer-256 .ensures)
+    let fresh = good .before .before in
+    (going-start _ (at-load fresh .load .ensures) (fresh .fresh .ensures) _ _ (good .if1 .left), c .before .buffer-128 .ensures, c .buffer-256 .ensures)
 
 read-message-requires : tie.Need-read-message-requires Inv-loop μ-loop
 read-message-requires c κs = search needs
@@ -384,7 +384,7 @@ returns-3 c =
 pub pass-spec : {M : Type 1} → statement M
 pass-spec =
     tie.close
-    (tie.spec Inv-loop μ-loop load-requires started-requires pass-closing-requires same-length returns buffer-128-requires buffer-256-requires loop-holds
+    (tie.spec Inv-loop μ-loop load-requires fresh-requires pass-closing-requires same-length returns buffer-128-requires buffer-256-requires loop-holds
     read-message-requires add-pass-closing cast-pass-closing add-pass-closing-2 pass-closing-requires-2 same-length-2 returns-2 cast-topic-len cast-payload-len
     array-share-prefix-topic slice-aggregate-name gate-for-requires seen-for-requires id-for-requires spent-for-requires fed-for-requires
     array-share-prefix-payload slice-aggregate-plan-from plan-from-requires count-on-requires mul-entry element-set-from-entry mul-bucket
