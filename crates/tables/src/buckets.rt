@@ -257,15 +257,12 @@ pub fn rate_limit_check(
         let at = i;
         i += 1;
         if identity::all_numbers_agree(
+            id,
             buckets[at].active,
             buckets[at].id.len,
             buckets[at].id.hash,
             buckets[at].id.hash2,
             buckets[at].id.suffix_hash,
-            id.len,
-            id.hash,
-            id.hash2,
-            id.suffix_hash,
         ) {
             let bucket = buckets[at];
             let held = bucket.id;
@@ -286,13 +283,11 @@ pub fn removed_bucket(buckets: [RateBucket; BUCKETS], id: Id) -> usize
         let at = i;
         i += 1;
         if identity::numbers_agree(
+            id,
             buckets[at].active,
             buckets[at].id.len,
             buckets[at].id.hash,
             buckets[at].id.hash2,
-            id.len,
-            id.hash,
-            id.hash2,
         ) {
             let bucket = buckets[at];
             let held = bucket.id;

@@ -64,26 +64,18 @@ fn same_prefix(a: [u8; PREFIX], b: [u8; PREFIX], n: usize) -> bool
     slices::bytes::same_bytes(&a[..cut], &b[..cut])
 }
 
-// A live record has a topic's length, then its hashes: what a message and a removal ask first. All of it comes as numbers, so that a search takes them from where
-// they stand in its table, and copies no record before they agree.
-pub fn numbers_agree(
-    live: bool,
-    len: u16,
-    hash: u32,
-    hash2: u32,
-    id_len: u16,
-    id_hash: u32,
-    id_hash2: u32,
-) -> bool
-    ensures { λ r. ⌜ r ≡ (live && (eqb hash «id_hash» && eqb hash2 «id_hash2» && eqb len «id_len»)) ⌝ }
+// Whether a record is live and has a topic's length, then its hashes: what a message and a removal ask first. The record's come as numbers, so that a search takes
+// them from where they stand in its table, and copies no record before they agree.
+pub fn numbers_agree(id: Id, live: bool, len: u16, hash: u32, hash2: u32) -> bool
+    ensures { λ r. ⌜ r ≡ (live && (eqb hash (id .hash) && eqb hash2 (id .hash2) && eqb len (id .len))) ⌝ }
 {
-    if len != id_len {
+    if len != id.len {
         return false;
     }
-    if hash != id_hash {
+    if hash != id.hash {
         return false;
     }
-    if hash2 != id_hash2 {
+    if hash2 != id.hash2 {
         return false;
     }
     live
@@ -91,20 +83,17 @@ pub fn numbers_agree(
 
 // The same with the suffix hash, for a message.
 pub fn all_numbers_agree(
+    id: Id,
     live: bool,
     len: u16,
     hash: u32,
     hash2: u32,
     suffix_hash: u32,
-    id_len: u16,
-    id_hash: u32,
-    id_hash2: u32,
-    id_suffix_hash: u32,
 ) -> bool
-    ensures { λ r. ⌜ r ≡ (live && (eqb hash «id_hash» && eqb hash2 «id_hash2» && eqb len «id_len» && eqb «suffix_hash» «id_suffix_hash»)) ⌝ }
+    ensures { λ r. ⌜ r ≡ (live && (eqb hash (id .hash) && eqb hash2 (id .hash2) && eqb len (id .len) && eqb «suffix_hash» (id .«suffix_hash»))) ⌝ }
 {
-    if numbers_agree(live, len, hash, hash2, id_len, id_hash, id_hash2) {
-        return suffix_hash == id_suffix_hash;
+    if numbers_agree(id, live, len, hash, hash2) {
+        return suffix_hash == id.suffix_hash;
     }
     false
 }

@@ -204,15 +204,12 @@ pub fn ewma_update(
         let at = i;
         i += 1;
         if all_numbers_agree(
+            id,
             trackers[at].active,
             trackers[at].id.len,
             trackers[at].id.hash,
             trackers[at].id.hash2,
             trackers[at].id.suffix_hash,
-            id.len,
-            id.hash,
-            id.hash2,
-            id.suffix_hash,
         ) {
             let tracker = trackers[at];
             let held = tracker.id;
@@ -234,13 +231,11 @@ pub fn removed_tracker(trackers: [EwmaTracker; TRACKERS], id: Id) -> usize
         let at = i;
         i += 1;
         if numbers_agree(
+            id,
             trackers[at].active,
             trackers[at].id.len,
             trackers[at].id.hash,
             trackers[at].id.hash2,
-            id.len,
-            id.hash,
-            id.hash2,
         ) {
             let tracker = trackers[at];
             let held = tracker.id;

@@ -9,7 +9,9 @@ numbers-agree-requires : tie.Need-numbers-agree-requires
 numbers-agree-requires c κs = search needs
 
 returns : tie.Need-returns
-returns c = sym (step-passes (c .before .before .args .live) _ _ (c .before .numbers-agree .ensures) (c .if1 .taken) refl refl)
+returns c =
+    let a = c .before .before in
+    sym (step-passes (a .before .args .live) _ _ (a .numbers-agree .ensures) (c .before .if1 .taken) refl refl)
 
 returns-2 : tie.Need-returns-2
 returns-2 c = sym (step-fails (c .before .before .args .live) _ _ (c .before .numbers-agree .ensures) (c .if1 .left))
