@@ -13,7 +13,7 @@
  * any thread. A bool is 0 or 1.
  *
  * Stack, in bytes below the caller, by measurement (rattle-kit-5b, x86-64; `bin/measure stack` measures again):
- * hub_trace and hub_trace_length reach 41,362, every other call at most 256, less not being told apart. Whole, cut and
+ * hub_trace and hub_trace_length reach 39,458, every other call at most 256, less not being told apart. Whole, cut and
  * damaged traces were tried; by the disassembly no function of the archive calls itself, no frame grows with its input,
  * and the frames add up to no more. */
 #ifndef HUB_H

@@ -1,6 +1,6 @@
 -- Laws of tests: what a false one tells, and tests joined by "and" or by "or". Assumes nothing.
-use mathlib.Core.Bool.{Bool, true, false, not, _&&_, _||_, or-true, false≢true}
-use mathlib.Core.Path.{_≡_, refl, sym}
+use mathlib.Core.Bool.{Bool, true, false, not, _&&_, _||_, and-assoc, or-true, false≢true}
+use mathlib.Core.Path.{_≡_, refl, sym, ap, _∙_}
 
 -- what is false is not true
 pub never : {P : Type 0} → false ≡ true → P
@@ -41,6 +41,16 @@ guard-off false test e = refl
 pub guard-on : (g test : Bool) {answer : Bool} → not g ≡ false → answer ≡ test → answer ≡ (g && test)
 guard-on true test e a = a
 guard-on false test e a = never (sym e)
+
+-- a test in two steps behind a guard, as code asks it: `n` is what the guard and the first step answered together, `b` what the second did
+module _ (g first rest : Bool) {n : Bool} (e : n ≡ g && first) where
+  -- where the first step fails all of it fails
+  pub step-fails : n ≡ false → g && (first && rest) ≡ false
+  step-fails f = sym (and-assoc g first rest) ∙ ap (λ (t : Bool). t && rest) (sym e ∙ f)
+
+  -- where it passes the second answers
+  pub step-passes : n ≡ true → {b answer : Bool} → b ≡ rest → b ≡ answer → g && (first && rest) ≡ answer
+  step-passes t p a = sym (and-assoc g first rest) ∙ ap (λ (t : Bool). t && rest) (sym e ∙ t) ∙ sym p ∙ a
 
 -- three alternatives, each of a first and a rest: some first, or some rest
 pub or-pairs : (a b c x y z : Bool) → (a || x) || (b || y) || (c || z) ≡ (a || b || c) || (x || y || z)

@@ -1,22 +1,13 @@
 -- A search asks a record in two steps: whether it is live and its numbers agree, where it stands; then its first bytes, once it is taken out. Together they are the
 -- whole test. Assumes nothing.
-use mathlib.Core.Bool.{Bool, true, false, _&&_, and-assoc}
-use mathlib.Core.Path.{_≡_, sym, ap, _∙_}
+use mathlib.Core.Bool.{Bool, true, false, _&&_}
+use mathlib.Core.Path.{_≡_}
 use lib.Dec.{eqb}
 use lib.ListN.{take}
+use Rattle.laws.proofs.Tests.{step-fails, step-passes}
 use Rattle.slices.specs.Bytes.{same}
 use Rattle.tables.specs.Identity.{isOf, isRemoved, compared}
 use Rattle.tables.specs.declared.identity.Id.{Id}
-
--- each law has what the code learnt: `n` is the answer of the first step, `b` that of the second
-module _ (live first rest : Bool) {n : Bool} (e : n ≡ live && first) where
-  -- where the first step fails the test fails
-  pub step-fails : n ≡ false → live && (first && rest) ≡ false
-  step-fails f = sym (and-assoc live first rest) ∙ ap (λ (t : Bool). t && rest) (sym e ∙ f)
-
-  -- where it passes the second answers
-  pub step-passes : n ≡ true → {b answer : Bool} → b ≡ rest → b ≡ answer → live && (first && rest) ≡ answer
-  step-passes t p a = sym (and-assoc live first rest) ∙ ap (λ (t : Bool). t && rest) (sym e ∙ t) ∙ sym p ∙ a
 
 module _ (id held : Id) where
   abbrev numbers : Bool
@@ -31,6 +22,7 @@ module _ (id held : Id) where
   abbrev prefixes : Bool
   prefixes = same (held .prefix) (id .prefix)
 
+  -- `n` is what the code learnt of the numbers, `b` of the bytes
   module _ (live : Bool) {n : Bool} where
     -- a record with other numbers is not that of a message's topic
     pub not-of : n ≡ live && allNumbers → n ≡ false → live && isOf id held ≡ false

@@ -1,7 +1,7 @@
 -- `identity::all_numbers_agree` meets its contract: the suffix hash is the second of two steps. Assumes nothing.
 use mathlib.Core.Path.{_≡_, refl, sym}
 use borrow.Author.Needs.{needs}
-use Rattle.tables.proofs.identity.AgreeLaws.{step-fails, step-passes}
+use Rattle.laws.proofs.Tests.{step-fails, step-passes}
 use Rattle.tables.proofs.identity.all_numbers_agree.Statement.{statement}
 use Rattle.tables.proofs.identity.all_numbers_agree.Tie as tie
 
