@@ -20,7 +20,8 @@ ghost use mathlib.Core.Path.{_≡_};
 ghost use Prim.Native.Nat.{min, max};
 ghost use Rattle.monitor.specs.Calls.{fresh, setStorm, removeBucket, removeTracker, resetState};
 
-// A monitor without rules, all places free, CONNECT threshold 5 in 60 seconds, ids from 1.
+// A monitor without rules, all places free, CONNECT threshold 5 in 60 seconds, ids from 1. It is for callers to whom the default is a value, as it is to a trace: choosing between
+// the two constructors below would keep two states on the stack.
 pub fn fresh(default_action: TopicAction) -> MqttMonitor
     ensures { λ r. ⌜ r ≡ fresh «default_action» ⌝ }
 {
