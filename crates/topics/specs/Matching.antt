@@ -1,6 +1,7 @@
--- Document 01, "Topics, level by level": the two matchers. `matchLevels` is the document's definition, for the port and for MQTT 3.1.1 section 4.7 alike:
--- the flag `emptyLast` says whether `+` takes an empty level that is the topic's last (the standard) or refuses it (the port). `matchBytes` is what the Rust
--- does on the bytes of any pattern, valid or not; proofs/matching/Meaning.antt shows that the two agree wherever the wildcards are well placed.
+-- Document 01, "Topics, level by level", and request C-15: the two matchers. `matchLevels` is the document's definition, for the port and for MQTT 3.1.1
+-- section 4.7 alike: the flag `emptyLast` says whether `+` takes an empty level that is the topic's last (the standard) or refuses it (the port). A second
+-- flag, `dollar`, adds section 4.7.2. The port has neither flag and the standard has both. `matchBytes` is what the Rust does on the bytes of any pattern,
+-- valid or not; proofs/matching/Meaning.antt shows that the two agree wherever the wildcards are well placed.
 -- Assumes nothing.
 use mathlib.Core.Bool.{Bool, true, false, cond, not, _&&_, _||_}
 use mathlib.Core.List.{List, [], _∷_}
@@ -12,6 +13,8 @@ use Rattle.slices.specs.Bytes.{same, startsWith}
 use Rattle.topics.specs.Levels.{levels, isHash, isPlus}
 use Rattle.topics.specs.Names.{startsWithDollar}
 use Rattle.topics.specs.Patterns.{patternRefusal}
+use Rattle.topics.specs.declared.matching.Matching.{Matching}
+use Rattle.topics.specs.declared.matching.Matching.the-variants.{Port, Standard}
 use Rattle.topics.specs.declared.matching.StandardMatch.{StandardMatch}
 use Rattle.topics.specs.declared.matching.StandardMatch.the-variants.{Yes, No, OutsideDomain}
 
@@ -80,9 +83,22 @@ ruleWith emptyLast dollar topic pattern = not (dollar && dollarApart topic patte
 abbrev pub portMatches : List ℕ → List ℕ → Bool
 portMatches topic pattern = matchesWith false false topic pattern
 
--- MQTT 3.1.1 section 4.7, level by level. Names that begin with a dollar sign are matched as any other: the second flag is off until request C-15
+-- MQTT 3.1.1 section 4.7, level by level, with 4.7.2: the standard has both flags
 unfoldable pub standardRule : List ℕ → List ℕ → Bool
-standardRule name pattern = ruleWith true false name pattern
+standardRule name pattern = ruleWith true true name pattern
+
+-- the choice of the standard, which turns on both flags
+abbrev pub isStandard : Matching → Bool
+isStandard Port = false
+isStandard Standard = true
+
+-- what a chosen matcher answers, on any topic and any pattern: whatever chooses a rule takes its matcher from here
+abbrev pub matchesBy : Matching → List ℕ → List ℕ → Bool
+matchesBy matching topic pattern = matchesWith (isStandard matching) (isStandard matching) topic pattern
+
+-- the same level by level, in the document's words
+abbrev pub ruleBy : Matching → List ℕ → List ℕ → Bool
+ruleBy matching topic pattern = ruleWith (isStandard matching) (isStandard matching) topic pattern
 
 -- what `standard_matches` answers: its domain is a pattern that `add_rule` takes and a name of at least 1 byte
 unfoldable pub standardMatches : List ℕ → List ℕ → StandardMatch

@@ -6,7 +6,7 @@ use mathlib.Core.Bool.{Bool, true, not, _&&_}
 use mathlib.Core.List.{List}
 use Prim.Native.Nat.{ℕ}
 use Rattle.topics.specs.Levels.{levels}
-use Rattle.topics.specs.Matching.{matchesWith, ruleWith, portMatches, standardRule, plusAtEmptyLast}
+use Rattle.topics.specs.Matching.{dollarApart, matchesWith, ruleWith, portMatches, standardRule, plusAtEmptyLast}
 use Rattle.topics.specs.Patterns.{wellPlaced}
 
 -- the byte matcher, with either of both flags, is the document's definition level by level
@@ -15,8 +15,14 @@ Meaning =
     (emptyLast dollar : Bool) (topic pattern : List ℕ) → wellPlaced (levels pattern) ≡ true
     → matchesWith emptyLast dollar topic pattern ≡ ruleWith emptyLast dollar topic pattern
 
--- the port's matcher says yes exactly where the standard's rule does (4.7 without 4.7.2's dollar names) and no `+` stands at the topic's last level while that is empty
+-- Where the two matchers differ, each way
+pub record Differs (topic pattern : List ℕ) : Type 0 where
+  -- the port alone says yes exactly where it says yes and section 4.7.2 keeps the name apart: it begins with a dollar sign, and the pattern with a wildcard
+  pub only-port : (portMatches topic pattern && not (standardRule topic pattern)) ≡ (portMatches topic pattern && dollarApart topic pattern)
+  -- the standard alone says yes exactly where it says yes and a `+` stands at the topic's last level, which is empty
+  pub only-standard :
+      (standardRule topic pattern && not (portMatches topic pattern)) ≡ (standardRule topic pattern && plusAtEmptyLast (levels topic) (levels pattern))
+
+-- they differ there and nowhere else
 abbrev pub Difference : Type 0
-Difference =
-    (topic pattern : List ℕ) → wellPlaced (levels pattern) ≡ true
-    → portMatches topic pattern ≡ (standardRule topic pattern && not (plusAtEmptyLast (levels topic) (levels pattern)))
+Difference = (topic pattern : List ℕ) → wellPlaced (levels pattern) ≡ true → Differs topic pattern

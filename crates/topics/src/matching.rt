@@ -1,5 +1,5 @@
-// The two matchers (document 01, "Topics, level by level"; 000 `topic_matches`). One function serves both by two flags: `empty_last`, under which a `+` takes an empty level that is the
-// topic's last, and `dollar`, under which a leading wildcard takes no name that begins with a dollar sign (off until request C-15).
+// The two matchers (document 01, "Topics, level by level"; 000 `topic_matches`; request C-15). One function serves both by two flags: `empty_last`, under which a `+` takes an empty
+// level that is the topic's last, and `dollar`, under which a leading wildcard takes no name that begins with a dollar sign. The port has neither, the standard both.
 use crate::names::starts_with_dollar;
 use crate::patterns::pattern_refusal;
 use slices::bytes::find_byte;
@@ -7,7 +7,13 @@ ghost use mathlib.Core.Bool.{_&&_};
 ghost use mathlib.Core.Path.{_≡_};
 ghost use Prim.Native.Nat.{_+_, _-_, _≤_};
 ghost use lib.ListN.{length, drop};
-ghost use Rattle.topics.specs.Matching.{startsWild, dollarApart, takesNone, takesEnd, matchBytes, matchesWith, portMatches, standardMatches, matchNumber};
+ghost use Rattle.topics.specs.Matching.{startsWild, dollarApart, takesNone, takesEnd, matchBytes, matchesWith, isStandard, matchesBy, portMatches, standardMatches, matchNumber};
+
+// Which of the two a monitor takes for its rules: as the Rust answers, or as MQTT 3.1.1 section 4.7 does.
+pub enum Matching {
+    Port,
+    Standard,
+}
 
 // What the standard matcher answers.
 pub enum StandardMatch {
@@ -112,14 +118,32 @@ fn kept_apart(topic: &[u8], pattern: &[u8], dollar: bool) -> bool
     starts_wild(pattern)
 }
 
-// A topic under a pattern, by both flags: the crates above choose them.
+// A topic under a pattern, by both flags: the crates above choose them. The walk comes first: of many rules most end it at once, and then nothing is asked of dollars.
 pub fn matches_with(topic: &[u8], pattern: &[u8], empty_last: bool, dollar: bool) -> bool
     ensures { λ r. ⌜ r ≡ matchesWith «empty_last» dollar (now (topic .entry)) (now (pattern .entry)) ⌝ }
 {
-    if kept_apart(topic, pattern, dollar) {
+    if !walk(topic, pattern, empty_last) {
         return false;
     }
-    walk(topic, pattern, empty_last)
+    !kept_apart(topic, pattern, dollar)
+}
+
+// Both flags of a choice.
+fn is_standard(matching: Matching) -> bool
+    ensures { λ r. ⌜ r ≡ isStandard matching ⌝ }
+{
+    match matching {
+        Matching::Port => false,
+        Matching::Standard => true,
+    }
+}
+
+// A topic under a rule's pattern, by the matcher that was chosen for the rules.
+pub fn matches_by(topic: &[u8], pattern: &[u8], matching: Matching) -> bool
+    ensures { λ r. ⌜ r ≡ matchesBy matching (now (topic .entry)) (now (pattern .entry)) ⌝ }
+{
+    let standard = is_standard(matching);
+    matches_with(topic, pattern, standard, standard)
 }
 
 // The port: as the Rust answers, on any pattern. Its `+` refuses an empty level that is the topic's last.
@@ -129,7 +153,7 @@ pub fn topic_matches(topic: &[u8], pattern: &[u8]) -> bool
     matches_with(topic, pattern, false, false)
 }
 
-// The standard: MQTT 3.1.1 section 4.7 without 4.7.2 (dollar names), for a pattern that `add_rule` takes and a name of at least 1 byte.
+// The standard: MQTT 3.1.1 section 4.7, for a pattern that `add_rule` takes and a name of at least 1 byte.
 pub fn standard_matches(name: &[u8], pattern: &[u8]) -> StandardMatch
     ensures { λ r. ⌜ r ≡ standardMatches (now (name .entry)) (now (pattern .entry)) ⌝ }
 {
@@ -139,7 +163,7 @@ pub fn standard_matches(name: &[u8], pattern: &[u8]) -> StandardMatch
     if name.len() == 0 {
         return StandardMatch::OutsideDomain;
     }
-    if matches_with(name, pattern, true, false) {
+    if matches_with(name, pattern, true, true) {
         StandardMatch::Yes
     } else {
         StandardMatch::No

@@ -1,8 +1,8 @@
 -- The byte matcher at what is left of a topic and a pattern at an index each: one law for each way through the loop of `walk` and
--- through `takes_none` and `takes_end`, with the branches' facts as premises. Assumes nothing.
-use mathlib.Core.Bool.{Bool, true, false}
+-- through `takes_none` and `takes_end`, with the branches' facts as premises; and through `matches_with`, which walks first. Assumes nothing.
+use mathlib.Core.Bool.{Bool, true, false, not, _&&_, and-comm}
 use mathlib.Core.List.{List, [], _∷_}
-use mathlib.Core.Path.{_≡_, refl, sym}
+use mathlib.Core.Path.{_≡_, refl, sym, ap, _∙_}
 use Prim.Native.Nat.{ℕ, _+_, _<_, _≤_, min}
 use native.Mathlib.Omega.{arith}
 use borrow.Author.Tests.{eq-eqb, ne-eqb}
@@ -10,9 +10,10 @@ use lib.Dec.{eqb}
 use lib.ListN.{length, drop, getD, drop-of-length-le}
 use lib.Seq.{drop-drop}
 use Rattle.laws.proofs.Cases.{by}
+use Rattle.laws.proofs.Tests.{guard-off, guard-on}
 use Rattle.slices.specs.Bytes.{toByte, findByte}
 use Rattle.slices.proofs.bytes.WalkLaws.{opened}
-use Rattle.topics.specs.Matching.{fromSlash, takesNone, takesEnd, matchBytes}
+use Rattle.topics.specs.Matching.{fromSlash, takesNone, takesEnd, matchBytes, dollarApart, matchesWith}
 
 -- at the end of a list each definition knows its answer
 pub none-end : (p : List ℕ) (j : ℕ) → length p ≤ j → true ≡ takesNone (drop j p)
@@ -95,3 +96,13 @@ module _ (f : Bool) (t p : List ℕ) (i j : ℕ) (lt : i < length t) where
         pub match-byte : getD p j 0 ≡ getD t i 0 → matchBytes f (drop i t) (drop j p) ≡ matchBytes f (drop (i + 1) t) (drop (j + 1) p)
         unfolding matchBytes
         match-byte e = rw (opened t i lt, opened p j lp, ne-eqb _ _ h, ne-eqb _ _ q, eq-eqb _ _ e, matchBytes)
+
+-- by both flags: the walk, then what is kept apart
+module _ (f d : Bool) (t p : List ℕ) {w : Bool} (walked : w ≡ matchBytes f t p) where
+  pub not-walked : not w ≡ true → false ≡ matchesWith f d t p
+  not-walked n = guard-off (matchBytes f t p) _ (ap not (sym walked) ∙ n) ∙ and-comm (matchBytes f t p) (not (d && dollarApart t p))
+
+  pub walked-apart : not w ≡ false → {a : Bool} → a ≡ (d && dollarApart t p) → not a ≡ matchesWith f d t p
+  walked-apart n e =
+      guard-on (matchBytes f t p) (not (d && dollarApart t p)) (ap not (sym walked) ∙ n) (ap not e)
+      ∙ and-comm (matchBytes f t p) (not (d && dollarApart t p))

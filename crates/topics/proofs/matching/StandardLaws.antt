@@ -26,12 +26,12 @@ outside-name [] p l = rw (and-false (eqb (patternRefusal p) 0))
 outside-name (x ∷ n) p l = absurd (omega arith)
 
 -- what the byte matcher answers of an accepted pattern is the standard's rule
-standard-bytes : (n p : List ℕ) → patternRefusal p ≡ 0 → matchesWith true false n p ≡ standardRule n p
+standard-bytes : (n p : List ℕ) → patternRefusal p ≡ 0 → matchesWith true true n p ≡ standardRule n p
 unfolding standardRule
-standard-bytes n p r = meaning true false n p (accepted-placed p r)
+standard-bytes n p r = meaning true true n p (accepted-placed p r)
 
 -- the domain
-pub inside : (n p : List ℕ) {b : Bool} → patternRefusal p ≡ 0 → (length n ≡ 0 → ⊥) → matchesWith true false n p ≡ b → cond b Yes No ≡ standardMatches n p
+pub inside : (n p : List ℕ) {b : Bool} → patternRefusal p ≡ 0 → (length n ≡ 0 → ⊥) → matchesWith true true n p ≡ b → cond b Yes No ≡ standardMatches n p
 unfolding standardMatches
 inside [] p r l e = absurd (l refl)
 inside (x ∷ n) p r l e = rw (eq-eqb _ _ r, ← standard-bytes (x ∷ n) p r, e)
