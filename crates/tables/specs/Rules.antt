@@ -6,7 +6,7 @@ use Prim.Native.Nat.{ℕ, _+_, _-_, min}
 use lib.Dec.{eqb, leb, ltb}
 use lib.ListN.{length, getD, take, replicate}
 use Rattle.slices.specs.Bytes.{same}
-use Rattle.topics.specs.Matching.{matchesWith, portMatches}
+use Rattle.topics.specs.Matching.{portMatches}
 use Rattle.topics.specs.Patterns.{patternRefusal}
 use Rattle.tables.specs.Numbers.{qosNumber}
 use Rattle.tables.specs.Scan.{find}
@@ -44,15 +44,11 @@ ruleFine r = r .active && leb (r .«pattern_len») 64 && eqb (patternRefusal (pa
 unfoldable pub equalRule : List ℕ → List TopicRule → ℕ → ℕ
 equalRule p rules n = find (λ r. r .active && same (patternOf r) p) (take n rules)
 
--- how a rule's pattern is matched: as the Rust does, by neither flag. Whatever chooses a rule takes its matcher from here (request C-15: the monitor's own)
-abbrev pub ruleMatches : List ℕ → List ℕ → Bool
-ruleMatches topic pattern = matchesWith false false topic pattern
-
 -- the place of the first rule that takes a topic, under a given matcher (topic, then pattern); the count where there is none
 unfoldable pub firstRule : (List ℕ → List ℕ → Bool) → List ℕ → List TopicRule → ℕ → ℕ
 firstRule matcher topic rules n = find (λ r. r .active && matcher topic (patternOf r)) (take n rules)
 
--- one of the earlier rules matches a pattern, read as a topic
+-- one of the earlier rules matches a pattern, read as a topic: as the Rust does, whatever matcher the rules are chosen by
 unfoldable pub covered : List ℕ → List TopicRule → Bool
 covered p [] = false
 covered p (e ∷ es) = (e .active && portMatches p (patternOf e)) || covered p es

@@ -1,6 +1,7 @@
 // Topic rules (document 01, "Numbers handed back", "Order inside one inspection"; 000 `TopicRule`, `check_qos_policy`, `add_rule`, `validate_rules`).
 use slices::bytes::same_bytes;
-use topics::matching::matches_with;
+use topics::matching::Matching;
+use topics::matching::matches_by;
 use topics::patterns::PATTERN_MAX;
 use topics::patterns::pattern_refusal;
 ghost use mathlib.Core.Bool.{_&&_};
@@ -10,9 +11,9 @@ ghost use Prim.Native.Nat.{_-_, _≤_, min};
 ghost use lib.Dec.{ltb};
 ghost use lib.ListN.{length, take, replicate};
 ghost use Rattle.slices.specs.Bytes.{same};
-ghost use Rattle.topics.specs.Matching.{portMatches};
+ghost use Rattle.topics.specs.Matching.{matchesBy, portMatches};
 ghost use Rattle.tables.specs.Numbers.{qosNumber, qosAt, actionNumber, actionAt, policyNumber, policyAt};
-ghost use Rattle.tables.specs.Rules.{qosOk, patternOf, ruleFine, ruleMatches, equalRule, shadowCount, emptyRule};
+ghost use Rattle.tables.specs.Rules.{qosOk, patternOf, ruleFine, equalRule, shadowCount, emptyRule};
 ghost use Rattle.tables.specs.Rules.{ruleOf, overwritten, notTaken, rulePlan};
 
 // How many rules a monitor holds.
@@ -186,16 +187,16 @@ pub fn rule_fine(rule: TopicRule) -> bool
     pattern_refusal(&pattern[..n]) == 0
 }
 
-// A live rule takes a topic.
-pub fn takes(rule: TopicRule, topic: &[u8]) -> bool
-    ensures { λ r. ⌜ r ≡ (rule .active && ruleMatches (now (topic .entry)) (patternOf rule)) ⌝ }
+// A live rule takes a topic, by the matcher that was chosen.
+pub fn takes(rule: TopicRule, topic: &[u8], matching: Matching) -> bool
+    ensures { λ r. ⌜ r ≡ (rule .active && matchesBy matching (now (topic .entry)) (patternOf rule)) ⌝ }
 {
     if !rule.active {
         return false;
     }
     let n = used(rule.pattern_len);
     let pattern = rule.pattern;
-    matches_with(topic, &pattern[..n], false, false)
+    matches_by(topic, &pattern[..n], matching)
 }
 
 // A live rule has just this pattern.
@@ -346,7 +347,7 @@ pub fn plan_rule(
     }
 }
 
-// A live rule whose pattern, read as a topic, an earlier one takes.
+// A live rule whose pattern, read as a topic, an earlier one takes: as the Rust has it, whatever matcher a monitor chose for its rules.
 fn shadows(earlier: TopicRule, later: TopicRule) -> bool
     ensures { λ r. ⌜ r ≡ (later .active && (earlier .active && portMatches (patternOf later) (patternOf earlier))) ⌝ }
 {
@@ -355,7 +356,7 @@ fn shadows(earlier: TopicRule, later: TopicRule) -> bool
     }
     let n = used(later.pattern_len);
     let pattern = later.pattern;
-    takes(earlier, &pattern[..n])
+    takes(earlier, &pattern[..n], Matching::Port)
 }
 
 // How many rules an earlier one shadows. The search for a later rule ends at the first earlier one that covers it, so that it counts once

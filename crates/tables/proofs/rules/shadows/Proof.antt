@@ -1,4 +1,4 @@
--- `rules::shadows` meets its contract: a later rule that is not guard-on counts for nothing, any other is asked as a topic. Assumes nothing.
+-- `rules::shadows` meets its contract: a later rule that is not live counts for nothing, any other is asked as a topic. Assumes nothing.
 use mathlib.Core.Path.{_≡_, sym, _∙_}
 use native.Mathlib.Omega.{arith}
 use borrow.Author.Needs.{needs}

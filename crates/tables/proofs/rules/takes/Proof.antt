@@ -1,4 +1,4 @@
--- `rules::takes` meets its contract: a rule that is not guard-on fails, any other is asked by the bytes of its pattern. Assumes nothing.
+-- `rules::takes` meets its contract: a rule that is not live fails, any other is asked by the bytes of its pattern. Assumes nothing.
 use mathlib.Core.Path.{_≡_, sym, _∙_}
 use native.Mathlib.Omega.{arith}
 use borrow.Author.Needs.{needs}
@@ -20,21 +20,21 @@ array-share-prefix-pattern c =
     let n : length (c .before .before .before .before .before .args .rule .pattern) ≡ 64 = search needs in
     omega (arith, c .before .used .ensures)
 
-slice-aggregate-matches-with : tie.Need-slice-aggregate-matches-with
-slice-aggregate-matches-with c =
+slice-aggregate-matches-by : tie.Need-slice-aggregate-matches-by
+slice-aggregate-matches-by c =
     let n : length (c .before .before .before .before .before .before .args .rule .pattern) ≡ 64 = search needs in
     sym (length-take-le _ _ (omega (arith, c .before .before .used .ensures)))
 
-matches-with-requires : tie.Need-matches-with-requires
-matches-with-requires c κs = search needs
+matches-by-requires : tie.Need-matches-by-requires
+matches-by-requires c κs = search needs
 
 returns-2 : tie.Need-returns-2
 returns-2 c =
     let u = c .before .before .before in
     let r = u .before .before .before .before .args .rule in
     let n : length (r .pattern) ≡ 64 = search needs in
-    guard-on (r .active) _ (u .before .if1 .left) (c .matches-with .ensures ∙ rw (lent r n (u .used .ensures)))
+    guard-on (r .active) _ (u .before .if1 .left) (c .matches-by .ensures ∙ rw (lent r n (u .used .ensures)))
 
 pub takes-spec : {M : Type 1} → statement M
 takes-spec =
-    tie.close (tie.spec returns used-requires array-share-prefix-pattern slice-aggregate-matches-with matches-with-requires returns-2)
+    tie.close (tie.spec returns used-requires array-share-prefix-pattern slice-aggregate-matches-by matches-by-requires returns-2)
