@@ -5,6 +5,7 @@ use Prim.Native.Nat.{ℕ}
 use lib.Dec.{eqb}
 use lib.ListN.{set, replicate}
 use Rattle.laws.proofs.Cases.{by}
+use Rattle.topics.specs.declared.matching.Matching.{Matching}
 use Rattle.tables.specs.Rules.{emptyRule, rulePlan}
 use Rattle.tables.specs.declared.rules.QosPolicy.{QosPolicy}
 use Rattle.tables.specs.declared.rules.TopicAction.{TopicAction}
@@ -14,21 +15,21 @@ use Rattle.monitor.specs.State.{withRules}
 use Rattle.monitor.specs.declared.state.MqttMonitor.{MqttMonitor}
 
 -- the monitor that has these rules
-abbrev pub holding : TopicAction → List TopicRule → ℕ → MqttMonitor
-holding default rules n = withRules (fresh default) rules n
+abbrev pub holding : Matching → TopicAction → List TopicRule → ℕ → MqttMonitor
+holding matching default rules n = withRules (fresh matching default) rules n
 
 -- with a free table it is as it began
-pub no-rules : (default : TopicAction) → holding default (replicate 32 emptyRule) 0 ≡ fresh default
+pub no-rules : (matching : Matching) (default : TopicAction) → holding matching default (replicate 32 emptyRule) 0 ≡ fresh matching default
 unfolding fresh
-no-rules default = refl
+no-rules matching default = refl
 
 -- only rules were added to a fresh monitor
 abbrev pub Plain : MqttMonitor → Type 0
-Plain m = holding (m .«default_action») (m .rules) (m .«rule_count») ≡ m
+Plain m = holding (m .matching) (m .«default_action») (m .rules) (m .«rule_count») ≡ m
 
-pub fresh-plain : (default : TopicAction) → Plain (fresh default)
+pub fresh-plain : (matching : Matching) (default : TopicAction) → Plain (fresh matching default)
 unfolding fresh
-fresh-plain default = refl
+fresh-plain matching default = refl
 
 pub add-plain : (m : MqttMonitor) (p : List ℕ) (action : TopicAction) (policy : QosPolicy) (rate : ℕ) → Plain m → Plain (addRule m p action policy rate .monitor)
 unfolding addRule

@@ -29,7 +29,7 @@ nothing-there x = refl
 
 untouched : {m : MqttMonitor} → Prepared m → Untouched m
 unfolding fresh addRule removeRule swapRules clearRules setStorm removeBucket removeTracker resetState
-untouched (made default) = (refl, refl)
+untouched (made matching default) = (refl, refl)
 untouched (anew r) = rw (reached-formed r) (refl, refl)
 untouched (rule {m} p pattern action policy rate) =
     by (eqb (tested m (rulePlan (m .rules) (m .«rule_count») pattern action policy rate .number)) 0) (λ e. rw e (untouched p)) (λ e. rw e (untouched p))
@@ -53,7 +53,7 @@ pub no-alerts : {m : MqttMonitor} → Prepared m → m .«total_alerts» ≡ 0
 no-alerts p = untouched p .1
 
 pub prepared-sound : {m : MqttMonitor} → Prepared m → Sound m
-prepared-sound (made default) = sound-fresh default
+prepared-sound (made matching default) = sound-fresh matching default
 prepared-sound (anew r) = sound-reset (reached-sound r)
 prepared-sound (rule p pattern action policy rate) = sound-add (prepared-sound p) pattern action policy rate
 prepared-sound (removed p at) = sound-remove (prepared-sound p) at

@@ -5,6 +5,7 @@ use borrow.Author.Tests.{ltb-true, ltb-false}
 use lib.Dec.{ltb}
 use lib.ListN.{getD, replicate, getD-replicate, List·getD-eq-default, length-replicate}
 use Rattle.laws.proofs.Cases.{by}
+use Rattle.topics.specs.declared.matching.Matching.{Matching}
 use Rattle.tables.specs.Buckets.{noBucket, emptyBucket}
 use Rattle.tables.specs.Identity.{noId, emptyId}
 use Rattle.tables.specs.Rules.{noRule, emptyRule}
@@ -31,9 +32,9 @@ free-id = record { hash-fits = omega arith; hash2-fits = omega arith; prefix-byt
 no-id : RangedId noId
 no-id = record { hash-fits = omega arith; hash2-fits = omega arith; prefix-bytes = zeros 256 0 (omega arith); prefix-len = omega arith; len-fits = omega arith; suffix-fits = omega arith }
 
-pub fresh-ranged : (default : TopicAction) → Ranged (fresh default)
+pub fresh-ranged : (matching : Matching) (default : TopicAction) → Ranged (fresh matching default)
 unfolding fresh
-fresh-ranged default =
+fresh-ranged matching default =
     record {
       rules-ranged =
           alone RangedRule 32 emptyRule noRule

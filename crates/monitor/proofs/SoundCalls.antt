@@ -11,6 +11,7 @@ use Rattle.laws.specs.Lists.{every}
 use Rattle.laws.proofs.Tests.{both}
 use Rattle.laws.proofs.Cases.{by}
 use Rattle.laws.proofs.Every.{every-set, every-first, first-every}
+use Rattle.topics.specs.declared.matching.Matching.{Matching}
 use Rattle.tables.specs.Buckets.{bucketFine, emptyBucket, removedBucket}
 use Rattle.tables.specs.Identity.{idOf}
 use Rattle.tables.specs.Rules.{equalRule, ruleFine, noRule, rulePlan}
@@ -35,9 +36,9 @@ use Rattle.monitor.proofs.SoundTrackers.{trackers-fresh, tracker-remove
 use Rattle.monitor.proofs.SoundWindows.{windows-fresh}
 
 -- a constructor
-pub sound-fresh : (default : TopicAction) → Sound (fresh default)
+pub sound-fresh : (matching : Matching) (default : TopicAction) → Sound (fresh matching default)
 unfolding fresh wellFormed every
-sound-fresh default =
+sound-fresh matching default =
     record {
       formed = refl;
       rules-sound = no-rules .sound;

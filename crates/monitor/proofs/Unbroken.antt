@@ -13,6 +13,7 @@ use Rattle.laws.proofs.Cases.{by}
 use Rattle.laws.proofs.Lists.{each}
 use Rattle.topics.specs.Hashes.{clientHashes}
 use Rattle.topics.specs.declared.hashes.ClientHashes.{ClientHashes}
+use Rattle.topics.specs.declared.matching.Matching.{Matching}
 use Rattle.tables.specs.Buckets.{noBucket, emptyBucket, decide, removedBucket}
 use Rattle.tables.specs.Identity.{idOf, prefixOf}
 use Rattle.tables.specs.Scan.{seat}
@@ -35,7 +36,7 @@ use Rattle.monitor.specs.Message.{typeNumber, usedTopic, usedPayload}
 use Rattle.monitor.specs.Plan.{seenOf, spentOf, fedOf, gateIn, planFrom, planOf}
 use Rattle.monitor.specs.Reached.{Reached, constructed, inspected, rule-added, rule-removed, rules-swapped, rules-cleared, storm-set, bucket-removed, tracker-removed, reset, UnbrokenAlways}
 use Rattle.monitor.specs.Sound.{Sound}
-use Rattle.monitor.specs.State.{ended}
+use Rattle.monitor.specs.State.{matcherOf, ended}
 use Rattle.monitor.specs.Unbroken.{OwnId, OwnWindow, OwnBuckets, OwnWindows, OwnTrackers, Unbroken}
 use Rattle.monitor.specs.declared.message.MqttMessage.{MqttMessage}
 use Rattle.monitor.specs.declared.state.MqttMonitor.{MqttMonitor}
@@ -242,22 +243,21 @@ module _ {m : MqttMonitor} (s : Sound m) (o : Unbroken m) where
   own-reset = called _ _ _ (λ z. record { buckets-own = buckets-free; windows-own = windows-free; trackers-own = trackers-free })
 
 -- a constructor
-own-fresh : (default : TopicAction) → Unbroken (fresh default)
+own-fresh : (matching : Matching) (default : TopicAction) → Unbroken (fresh matching default)
 unfolding fresh
-own-fresh default = record { buckets-own = buckets-free; windows-own = windows-free; trackers-own = trackers-free }
+own-fresh matching default = record { buckets-own = buckets-free; windows-own = windows-free; trackers-own = trackers-free }
 
-module _ {matcher : List ℕ → List ℕ → Bool} where
-  reached-own : {m : MqttMonitor} → Reached matcher m → Unbroken m
-  reached-own (constructed default) = own-fresh default
-  reached-own (inspected msg topic payload r) = own-inspect (reached-sound r) (reached-own r) matcher msg topic payload
-  reached-own (rule-added pattern action policy rate r) = own-add (reached-sound r) (reached-own r) pattern action policy rate
-  reached-own (rule-removed at r) = own-remove (reached-sound r) (reached-own r) at
-  reached-own (rules-swapped a b r) = own-swap (reached-sound r) (reached-own r) a b
-  reached-own (rules-cleared r) = own-clear (reached-sound r) (reached-own r)
-  reached-own (storm-set threshold window r) = own-storm (reached-sound r) (reached-own r) threshold window
-  reached-own (bucket-removed topic r) = own-bucket (reached-sound r) (reached-own r) topic
-  reached-own (tracker-removed topic r) = own-tracker (reached-sound r) (reached-own r) topic
-  reached-own (reset r) = own-reset (reached-sound r) (reached-own r)
+reached-own : {m : MqttMonitor} → Reached m → Unbroken m
+reached-own (constructed matching default) = own-fresh matching default
+reached-own (inspected {m} msg topic payload r) = own-inspect (reached-sound r) (reached-own r) (matcherOf m) msg topic payload
+reached-own (rule-added pattern action policy rate r) = own-add (reached-sound r) (reached-own r) pattern action policy rate
+reached-own (rule-removed at r) = own-remove (reached-sound r) (reached-own r) at
+reached-own (rules-swapped a b r) = own-swap (reached-sound r) (reached-own r) a b
+reached-own (rules-cleared r) = own-clear (reached-sound r) (reached-own r)
+reached-own (storm-set threshold window r) = own-storm (reached-sound r) (reached-own r) threshold window
+reached-own (bucket-removed topic r) = own-bucket (reached-sound r) (reached-own r) topic
+reached-own (tracker-removed topic r) = own-tracker (reached-sound r) (reached-own r) topic
+reached-own (reset r) = own-reset (reached-sound r) (reached-own r)
 
 pub unbroken-always : UnbrokenAlways
-unbroken-always matcher m r = reached-own r
+unbroken-always m r = reached-own r

@@ -6,6 +6,7 @@ use mathlib.Core.List.{List, _∷_, _++_}
 use Prim.Native.Nat.{ℕ, _+_, _-_, min, max}
 use lib.Dec.{ltb}
 use lib.ListN.{getD, take, drop, set, replicate}
+use Rattle.topics.specs.declared.matching.Matching.{Matching}
 use Rattle.tables.specs.Identity.{idOf}
 use Rattle.tables.specs.Buckets.{emptyBucket, removedBucket}
 use Rattle.tables.specs.Rules.{shadowCount, emptyRule, noRule, rulePlan}
@@ -21,9 +22,9 @@ use Rattle.monitor.specs.declared.state.MqttMonitor.{MqttMonitor}
 use Rattle.monitor.specs.declared.state.Outcome.{Outcome}
 use Rattle.monitor.specs.declared.state.Outcome.the-variants.{Done, Refused}
 
--- a fresh monitor with a default action: no rules, all places free, CONNECT threshold 5 in 60,000,000, ids from 1
-unfoldable pub fresh : TopicAction → MqttMonitor
-fresh default =
+-- a fresh monitor with a matcher of its rules and a default action: no rules, all places free, CONNECT threshold 5 in 60,000,000, ids from 1
+unfoldable pub fresh : Matching → TopicAction → MqttMonitor
+fresh matching default =
     record {
       rules = replicate 32 emptyRule;
       «rule_count» = 0;
@@ -32,6 +33,7 @@ fresh default =
       «connect_storm_threshold» = 5;
       «connect_storm_window_us» = 60000000;
       «default_action» = default;
+      matching = matching;
       «ewma_trackers» = replicate 16 emptyTracker;
       «next_alert_id» = 1;
       «total_inspected» = 0;
@@ -101,7 +103,7 @@ removeTracker m topic =
     ended (tested m (cond (ltb (removedTracker (idOf topic) (m .«ewma_trackers»)) 16) 0 7)) m 0
     (withTables m (m .«rate_buckets») (m .«connect_windows») (set (m .«ewma_trackers») (removedTracker (idOf topic) (m .«ewma_trackers»)) emptyTracker))
 
--- `reset_state` keeps rules, default and CONNECT settings
+-- `reset_state` keeps rules, default, matcher and CONNECT settings
 unfoldable pub resetState : MqttMonitor → Called
 resetState m =
     ended (tested m 0) m 0

@@ -32,6 +32,7 @@ applied m p =
       «connect_storm_threshold» = m .«connect_storm_threshold»;
       «connect_storm_window_us» = m .«connect_storm_window_us»;
       «default_action» = m .«default_action»;
+      matching = m .matching;
       «ewma_trackers» = storedAt 16 (m .«ewma_trackers») (p .fed .at) (p .fed .tracker);
       «next_alert_id» = p .raised .«next_id»;
       «total_inspected» = counted (m .«total_inspected»);

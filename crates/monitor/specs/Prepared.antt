@@ -1,10 +1,10 @@
--- Fresh monitors (demand 3: a fresh monitor with rules): either constructor, or a reset of any state that calls handed out; then any calls but inspections, in any order
+-- Fresh monitors (demand 3: a fresh monitor with rules): any constructor, or a reset of any state that calls handed out; then any calls but inspections, in any order
 -- and with any arguments, refused or not. However a hub gets its rules into place, it is one of these before its first message. No bucket is live in them
 -- (proofs/Prepared.antt).
 -- Assumes nothing.
-use mathlib.Core.Bool.{Bool}
 use mathlib.Core.List.{List}
 use Prim.Native.Nat.{ℕ}
+use Rattle.topics.specs.declared.matching.Matching.{Matching}
 use Rattle.tables.specs.declared.rules.QosPolicy.{QosPolicy}
 use Rattle.tables.specs.declared.rules.TopicAction.{TopicAction}
 use Rattle.monitor.specs.Calls.{fresh, addRule, removeRule, swapRules, clearRules, setStorm, removeBucket, removeTracker, resetState}
@@ -13,8 +13,8 @@ use Rattle.monitor.specs.declared.state.MqttMonitor.{MqttMonitor}
 
 -- a monitor before its first message
 pub data Prepared : MqttMonitor → Type 0 where
-  made : (default : TopicAction) → Prepared (fresh default)
-  anew : {matcher : List ℕ → List ℕ → Bool} {m : MqttMonitor} → Reached matcher m → Prepared (resetState m .monitor)
+  made : (matching : Matching) (default : TopicAction) → Prepared (fresh matching default)
+  anew : {m : MqttMonitor} → Reached m → Prepared (resetState m .monitor)
   rule :
       {m : MqttMonitor} → Prepared m → (pattern : List ℕ) (action : TopicAction) (policy : QosPolicy) (rate : ℕ)
       → Prepared (addRule m pattern action policy rate .monitor)

@@ -6,6 +6,7 @@ use Prim.Native.Nat.{ℕ}
 use lib.Dec.{eqb, leb}
 use lib.ListN.{take}
 use Rattle.laws.specs.Lists.{every}
+use Rattle.topics.specs.Matching.{matchesBy}
 use Rattle.tables.specs.declared.buckets.RateBucket.{RateBucket}
 use Rattle.tables.specs.declared.rules.TopicRule.{TopicRule}
 use Rattle.tables.specs.declared.trackers.EwmaTracker.{EwmaTracker}
@@ -26,6 +27,10 @@ wellFormed m =
     leb (m .«rule_count») 32 && every ruleFine (take (m .«rule_count») (m .rules)) && every bucketFine (m .«rate_buckets»)
     && every windowFine (m .«connect_windows») && every trackerFine (m .«ewma_trackers»)
 
+-- the matcher of a monitor's rules (topic, then pattern): the one that its constructor chose
+abbrev pub matcherOf : MqttMonitor → List ℕ → List ℕ → Bool
+matcherOf m = matchesBy (m .matching)
+
 -- the state with other rules
 abbrev pub withRules : MqttMonitor → List TopicRule → ℕ → MqttMonitor
 withRules m rules n =
@@ -37,6 +42,7 @@ withRules m rules n =
       «connect_storm_threshold» = m .«connect_storm_threshold»;
       «connect_storm_window_us» = m .«connect_storm_window_us»;
       «default_action» = m .«default_action»;
+      matching = m .matching;
       «ewma_trackers» = m .«ewma_trackers»;
       «next_alert_id» = m .«next_alert_id»;
       «total_inspected» = m .«total_inspected»;
@@ -54,6 +60,7 @@ withSettings m threshold window =
       «connect_storm_threshold» = threshold;
       «connect_storm_window_us» = window;
       «default_action» = m .«default_action»;
+      matching = m .matching;
       «ewma_trackers» = m .«ewma_trackers»;
       «next_alert_id» = m .«next_alert_id»;
       «total_inspected» = m .«total_inspected»;
@@ -71,6 +78,7 @@ withTables m buckets clients trackers =
       «connect_storm_threshold» = m .«connect_storm_threshold»;
       «connect_storm_window_us» = m .«connect_storm_window_us»;
       «default_action» = m .«default_action»;
+      matching = m .matching;
       «ewma_trackers» = trackers;
       «next_alert_id» = m .«next_alert_id»;
       «total_inspected» = m .«total_inspected»;
@@ -88,6 +96,7 @@ withCounters m id inspected alerts =
       «connect_storm_threshold» = m .«connect_storm_threshold»;
       «connect_storm_window_us» = m .«connect_storm_window_us»;
       «default_action» = m .«default_action»;
+      matching = m .matching;
       «ewma_trackers» = m .«ewma_trackers»;
       «next_alert_id» = id;
       «total_inspected» = inspected;

@@ -16,14 +16,15 @@ use tables::rules::TopicAction;
 use tables::trackers::TRACKERS;
 use tables::trackers::empty_tracker;
 use tables::trackers::removed_tracker;
+use topics::matching::Matching;
 ghost use mathlib.Core.Path.{_≡_};
 ghost use Prim.Native.Nat.{min, max};
 ghost use Rattle.monitor.specs.Calls.{fresh, setStorm, removeBucket, removeTracker, resetState};
 
-// A monitor without rules, all places free, CONNECT threshold 5 in 60 seconds, ids from 1. It is for callers to whom the default is a value, as it is to a trace: choosing between
-// the two constructors below would keep two states on the stack.
-pub fn fresh(default_action: TopicAction) -> MqttMonitor
-    ensures { λ r. ⌜ r ≡ fresh «default_action» ⌝ }
+// A monitor without rules, all places free, CONNECT threshold 5 in 60 seconds, ids from 1. It is for callers to whom matcher and default are values, as they are to a trace: choosing
+// among the four constructors below would keep as many states on the stack.
+pub fn fresh(matching: Matching, default_action: TopicAction) -> MqttMonitor
+    ensures { λ r. ⌜ r ≡ fresh matching «default_action» ⌝ }
 {
     MqttMonitor {
         rules: free_rules(),
@@ -33,6 +34,7 @@ pub fn fresh(default_action: TopicAction) -> MqttMonitor
         connect_storm_threshold: 5,
         connect_storm_window_us: 60_000_000,
         default_action: default_action,
+        matching: matching,
         ewma_trackers: free_trackers(),
         next_alert_id: 1,
         total_inspected: 0,
@@ -40,18 +42,32 @@ pub fn fresh(default_action: TopicAction) -> MqttMonitor
     }
 }
 
-// A topic that no rule takes is allowed.
+// A topic that no rule takes is allowed. Its rules are matched as the Rust does; so are those of the next.
 pub fn new() -> MqttMonitor
-    ensures { λ r. ⌜ r ≡ fresh TopicAction.Allow ⌝ }
+    ensures { λ r. ⌜ r ≡ fresh Matching.Port TopicAction.Allow ⌝ }
 {
-    fresh(TopicAction::Allow)
+    fresh(Matching::Port, TopicAction::Allow)
 }
 
 // A topic that no rule takes is blocked.
 pub fn new_deny_default() -> MqttMonitor
-    ensures { λ r. ⌜ r ≡ fresh TopicAction.Block ⌝ }
+    ensures { λ r. ⌜ r ≡ fresh Matching.Port TopicAction.Block ⌝ }
 {
-    fresh(TopicAction::Block)
+    fresh(Matching::Port, TopicAction::Block)
+}
+
+// As `new`, with rules that are matched as MQTT 3.1.1 section 4.7 has it (request C-15).
+pub fn new_standard() -> MqttMonitor
+    ensures { λ r. ⌜ r ≡ fresh Matching.Standard TopicAction.Allow ⌝ }
+{
+    fresh(Matching::Standard, TopicAction::Allow)
+}
+
+// As `new_deny_default`, with such rules.
+pub fn new_standard_deny_default() -> MqttMonitor
+    ensures { λ r. ⌜ r ≡ fresh Matching.Standard TopicAction.Block ⌝ }
+{
+    fresh(Matching::Standard, TopicAction::Block)
 }
 
 // How many messages were inspected since the last reset. This and the next two answer for any state.
@@ -142,7 +158,7 @@ pub fn remove_ewma_tracker(m: MqttMonitor, topic: &[u8]) -> Called
     done(next, 0)
 }
 
-// Rules, default and CONNECT settings stay.
+// Rules, default, matcher and CONNECT settings stay.
 pub fn reset_state(m: MqttMonitor) -> Called
     ensures { λ r. ⌜ r ≡ resetState m ⌝ }
 {

@@ -8,14 +8,15 @@ use tables::rules::TopicRule;
 use tables::rules::check_qos_policy;
 use tables::rules::places;
 use tables::rules::takes;
+use topics::matching::Matching;
 use topics::names::contains_invalid_publish_char;
 use topics::names::is_broad_wildcard_subscribe;
 use topics::names::starts_with_dollar;
 ghost use mathlib.Core.Bool.{cond, not, _&&_};
 ghost use mathlib.Core.Path.{_≡_};
 ghost use lib.Dec.{eqb, ltb};
+ghost use Rattle.topics.specs.Matching.{matchesBy};
 ghost use Rattle.topics.specs.Names.{isBroad, startsWithDollar, badPublish};
-ghost use Rattle.tables.specs.Rules.{ruleMatches};
 ghost use Rattle.monitor.specs.Message.{typeNumber};
 ghost use Rattle.monitor.specs.Gate.{isBlock, ruledBy, ruledByDefault, rulingOf, stageOf, endsEarly, deniedBy, goesOn, gateAfter, isTopical, gateOf};
 
@@ -76,15 +77,16 @@ fn rule_for(
     rules: [TopicRule; RULES],
     count: u16,
     default_action: TopicAction,
+    matching: Matching,
     topic: &[u8],
 ) -> Ruling
-    ensures { λ r. ⌜ r ≡ rulingOf ruleMatches rules count «default_action» (now (topic .entry)) ⌝ }
+    ensures { λ r. ⌜ r ≡ rulingOf (matchesBy matching) rules count «default_action» (now (topic .entry)) ⌝ }
 {
     let n = places(count as usize);
     let mut i = 0;
     while i < n {
         let rule = rules[i];
-        if takes(rule, topic) {
+        if takes(rule, topic, matching) {
             return ruled_by(rule, i);
         }
         i += 1;
@@ -256,10 +258,11 @@ pub fn gate_for(
     rules: [TopicRule; RULES],
     count: u16,
     default_action: TopicAction,
+    matching: Matching,
     msg: MqttMessage,
     topic: &[u8],
 ) -> Gate
-    ensures { λ r. ⌜ r ≡ gateOf ruleMatches rules count «default_action» msg (now (topic .entry)) ⌝ }
+    ensures { λ r. ⌜ r ≡ gateOf (matchesBy matching) rules count «default_action» msg (now (topic .entry)) ⌝ }
 {
     let packet_type = msg.packet_type;
     let number = type_number(packet_type);
@@ -276,6 +279,6 @@ pub fn gate_for(
         msg,
         number,
         topic,
-        rule_for(rules, count, default_action, topic),
+        rule_for(rules, count, default_action, matching, topic),
     )
 }

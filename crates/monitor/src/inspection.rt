@@ -15,7 +15,7 @@ use tables::trackers::TRACKERS;
 use tables::windows::WINDOWS;
 ghost use mathlib.Core.Path.{_≡_};
 ghost use Prim.Native.Nat.{min};
-ghost use Rattle.tables.specs.Rules.{ruleMatches};
+ghost use Rattle.monitor.specs.State.{matcherOf};
 ghost use Rattle.monitor.specs.Inspect.{noResult, refusedWith, inspectWith};
 
 // What an inspection hands back. Refused, `result` is a denial without alerts and the state is as given.
@@ -56,9 +56,9 @@ fn refused(m: MqttMonitor, number: u32) -> Inspected
     }
 }
 
-// 10 is tested first, then 9 for a lent topic or payload shorter than the part used.
+// The rules are chosen by the monitor's own matcher. 10 is tested first, then 9 for a lent topic or payload shorter than the part used.
 pub fn inspect(m: MqttMonitor, msg: MqttMessage, topic: &[u8], payload: &[u8]) -> Inspected
-    ensures { λ r. ⌜ r ≡ inspectWith ruleMatches m msg (now (topic .entry)) (now (payload .entry)) ⌝ }
+    ensures { λ r. ⌜ r ≡ inspectWith (matcherOf m) m msg (now (topic .entry)) (now (payload .entry)) ⌝ }
 {
     if !well_formed(m) {
         return refused(m, 10);

@@ -36,11 +36,11 @@ ghost use mathlib.Core.Path.{_≡_};
 ghost use lib.Dec.{eqb, ltb};
 ghost use lib.ListN.{replicate};
 ghost use Rattle.topics.specs.Payload.{payloadHash};
-ghost use Rattle.tables.specs.Rules.{ruleMatches};
 ghost use Rattle.tables.specs.Buckets.{emptyBucket};
 ghost use Rattle.tables.specs.Trackers.{emptyTracker};
 ghost use Rattle.tables.specs.Windows.{emptyWindow};
 ghost use Rattle.tables.specs.declared.buckets.RateCheckResult.the-variants.{Allowed};
+ghost use Rattle.monitor.specs.State.{matcherOf};
 ghost use Rattle.monitor.specs.Plan.{seenOf, idFor, spentOf, fedOf, limiterKind, planFrom, planOf};
 
 // What is to be stored where, and the message's result.
@@ -239,11 +239,12 @@ pub fn plan_from(
 
 // The plan of a message with its used topic and payload, under a state; `inspection::inspect` asks for it and does the stores.
 pub fn plan_for(m: MqttMonitor, msg: MqttMessage, topic: &[u8], payload: &[u8]) -> Plan
-    ensures { λ r. ⌜ r ≡ planOf ruleMatches m msg (now (topic .entry)) (now (payload .entry)) ⌝ }
+    ensures { λ r. ⌜ r ≡ planOf (matcherOf m) m msg (now (topic .entry)) (now (payload .entry)) ⌝ }
 {
     let rules = m.rules;
     let default_action = m.default_action;
-    let gate = gate_for(rules, m.rule_count, default_action, msg, topic);
+    let matching = m.matching;
+    let gate = gate_for(rules, m.rule_count, default_action, matching, msg, topic);
     let clients = m.connect_windows;
     let seen = seen_for(
         clients,

@@ -17,6 +17,7 @@ use tables::windows::ClientStormEntry;
 use tables::windows::WINDOWS;
 use tables::windows::empty_window;
 use tables::windows::window_fine;
+use topics::matching::Matching;
 ghost use mathlib.Core.Path.{_≡_};
 ghost use Prim.Native.Nat.{_≤_};
 ghost use lib.ListN.{take, replicate};
@@ -27,6 +28,7 @@ ghost use Rattle.tables.specs.Trackers.{trackerFine, emptyTracker};
 ghost use Rattle.tables.specs.Windows.{windowFine, emptyWindow};
 ghost use Rattle.monitor.specs.State.{wellFormed};
 
+// `matching` is the matcher that the rules are chosen by. The Rust has no such field: its own is `Port` (request C-15). A constructor sets it, and no call changes it.
 pub struct MqttMonitor {
     pub rules: [TopicRule; RULES],
     pub rule_count: u16,
@@ -35,6 +37,7 @@ pub struct MqttMonitor {
     pub connect_storm_threshold: u8,
     pub connect_storm_window_us: u64,
     pub default_action: TopicAction,
+    pub matching: Matching,
     pub ewma_trackers: [EwmaTracker; TRACKERS],
     pub next_alert_id: u64,
     pub total_inspected: u64,

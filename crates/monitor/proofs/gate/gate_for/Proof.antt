@@ -4,8 +4,8 @@ use mathlib.Core.Path.{_≡_, sym, _∙_}
 use borrow.Author.Tests.{not-true, not-false}
 use borrow.Author.Needs.{needs}
 use lib.Dec.{eqb}
+use Rattle.topics.specs.Matching.{matchesBy}
 use Rattle.topics.specs.Names.{badPublish}
-use Rattle.tables.specs.Rules.{ruleMatches}
 use Rattle.monitor.specs.Gate.{endsEarly, gateAfter, gateOf, rulingOf}
 use Rattle.monitor.proofs.gate.GateLaws.{none-empty, gate-on}
 use Rattle.monitor.proofs.gate.gate_for.Statement.{statement}
@@ -52,9 +52,9 @@ ends-early-requires-3 c κs = search needs
 looked-at : (c : tie.Else2)
     → let t = c .before .before .before in
     let a = t .before .before .args in
-    gateOf ruleMatches (a .rules) (a .count) (a .default-action) (a .msg) (a .topic .now)
+    gateOf (matchesBy (a .matching)) (a .rules) (a .count) (a .default-action) (a .msg) (a .topic .now)
     ≡ cond (eqb (t .type-number .result) 3 && badPublish (a .topic .now)) (endsEarly 9)
-    (gateAfter (a .msg) (a .topic .now) (rulingOf ruleMatches (a .rules) (a .count) (a .default-action) (a .topic .now)))
+    (gateAfter (a .msg) (a .topic .now) (rulingOf (matchesBy (a .matching)) (a .rules) (a .count) (a .default-action) (a .topic .now)))
 looked-at c =
     let f = c .before in
     let k = f .before in

@@ -5,7 +5,8 @@ use Prim.Native.Nat.{_≤_, _-_, _+_}
 use native.Mathlib.Omega.{arith}
 use borrow.Author.Needs.{needs}
 use lib.ListN.{length, take, drop}
-use Rattle.tables.specs.Rules.{ruleMatches, firstRule}
+use Rattle.topics.specs.Matching.{matchesBy}
+use Rattle.tables.specs.Rules.{firstRule}
 use Rattle.tables.specs.Scan.{find}
 use Rattle.tables.proofs.rules.RuleLaws.{passing, seek-here, seek-next, seek-done}
 use Rattle.monitor.proofs.gate.GateLaws.{ruled-none, ruled-here}
@@ -13,11 +14,11 @@ use Rattle.monitor.proofs.gate.rule_for.Statement.{statement}
 use Rattle.monitor.proofs.gate.rule_for.Tie as tie
 
 abbrev Inv-loop : tie.InvT-loop
-Inv-loop count default-action topic rules n i₀ i =
-    (i ≤ n) × (find (passing (ruleMatches topic)) (take count rules) ≡ i + find (passing (ruleMatches topic)) (drop i (take count rules)))
+Inv-loop count default-action matching topic rules n i₀ i =
+    (i ≤ n) × (find (passing (matchesBy matching topic)) (take count rules) ≡ i + find (passing (matchesBy matching topic)) (drop i (take count rules)))
 
 abbrev μ-loop : tie.MeasureT-loop
-μ-loop count default-action topic rules n i₀ i = n - i
+μ-loop count default-action matching topic rules n i₀ i = n - i
 
 places-requires : tie.Need-places-requires Inv-loop μ-loop
 places-requires c κs = search needs
@@ -44,8 +45,8 @@ returns c =
     let n = t .before .before in
     let a = n .before .before .args in
     let full : length (a .t1) ≡ 32 = search needs in
-    ruled-here ruleMatches (a .t1) (a .count) (a .default-action) (a .topic .now)
-    (seek-here (ruleMatches (a .topic .now)) (a .t1) (a .count) _ full (n .places .ensures) (t .before .loop .inv .1) (t .loop-test .taken)
+    ruled-here (matchesBy (a .matching)) (a .t1) (a .count) (a .default-action) (a .topic .now)
+    (seek-here (matchesBy (a .matching) (a .topic .now)) (a .t1) (a .count) _ full (n .places .ensures) (t .before .loop .inv .1) (t .loop-test .taken)
     (sym (c .before .before .takes .ensures) ∙ c .before .if1 .taken))
     (omega arith) (c .ruled-by .ensures)
 
@@ -62,7 +63,7 @@ loop-again c =
     let a = n .before .before .args in
     let full : length (a .t1) ≡ 32 = search needs in (
       omega arith,
-      seek-next (ruleMatches (a .topic .now)) (a .t1) (a .count) _ full (n .places .ensures) (t .before .loop .inv .1) (t .loop-test .taken)
+      seek-next (matchesBy (a .matching) (a .topic .now)) (a .t1) (a .count) _ full (n .places .ensures) (t .before .loop .inv .1) (t .loop-test .taken)
           (sym (c .before .takes .ensures) ∙ c .if1 .left),
     )
 
@@ -76,8 +77,8 @@ returns-2 c =
     let n = t .before .before in
     let a = n .before .before .args in
     let full : length (a .t1) ≡ 32 = search needs in
-    ruled-none ruleMatches (a .t1) (a .count) (a .default-action) (a .topic .now)
-    (seek-done (ruleMatches (a .topic .now)) (a .t1) (a .count) _ full (n .places .ensures) (t .before .loop .inv .1) (t .before .loop .inv .0) (t .loop-test .left))
+    ruled-none (matchesBy (a .matching)) (a .t1) (a .count) (a .default-action) (a .topic .now)
+    (seek-done (matchesBy (a .matching) (a .topic .now)) (a .t1) (a .count) _ full (n .places .ensures) (t .before .loop .inv .1) (t .before .loop .inv .0) (t .loop-test .left))
     (omega arith) (c .ruled-by-default .ensures)
 
 pub rule-for-spec : {M : Type 1} → statement M

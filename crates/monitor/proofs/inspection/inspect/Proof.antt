@@ -2,7 +2,6 @@
 use mathlib.Core.Logic.{⊎-elim}
 use mathlib.Core.Path.{_≡_, sym}
 use lib.Seq.{length-take-le}
-use Rattle.tables.specs.Rules.{ruleMatches}
 use Rattle.monitor.specs.Inspect.{storedAt}
 use Rattle.monitor.specs.declared.state.MqttMonitor.{MqttMonitor}
 use Rattle.monitor.proofs.inspection.ApplyLaws.{stored-yes, stored-no, withClients, withBuckets, withTrackers, stored-all, not-formed, short-topic, short-payload, inspected}
@@ -44,7 +43,7 @@ refused-requires : tie.Need-refused-requires
 refused-requires c κs = search needs
 
 returns : tie.Need-returns
-returns c = not-formed ruleMatches _ _ _ _ (c .before .before .well-formed .ensures) (c .before .if1 .taken) (c .refused .ensures)
+returns c = not-formed _ _ _ _ _ (c .before .before .well-formed .ensures) (c .before .if1 .taken) (c .refused .ensures)
 
 cast-used : tie.Need-cast-used
 cast-used c = search needs
@@ -59,7 +58,7 @@ returns-2 : tie.Need-returns-2
 returns-2 c =
     let used = c .before .before in
     let formed = used .before .before in
-    short-topic ruleMatches _ _ _ _ (formed .before .well-formed .ensures) (formed .if1 .left) (used .used .ensures) (c .before .if2 .taken) (c .refused2 .ensures)
+    short-topic _ _ _ _ _ (formed .before .well-formed .ensures) (formed .if1 .left) (used .used .ensures) (c .before .if2 .taken) (c .refused2 .ensures)
 
 cast-used-2 : tie.Need-cast-used-2
 cast-used-2 c = search needs
@@ -75,7 +74,7 @@ returns-3 c =
     let used = c .before .before in
     let topic = used .before .before in
     let formed = at-formed topic in
-    short-payload ruleMatches _ _ _ _ (formed .before .well-formed .ensures) (formed .if1 .left) (topic .before .used .ensures) (topic .if2 .left)
+    short-payload _ _ _ _ _ (formed .before .well-formed .ensures) (formed .if1 .left) (topic .before .used .ensures) (topic .if2 .left)
     (used .used2 .ensures) (c .before .if3 .taken) (c .refused3 .ensures)
 
 slice-aggregate-plan-for : tie.Need-slice-aggregate-plan-for
@@ -155,7 +154,7 @@ returns-4 c =
     let topic = at-topic payload in
     let formed = at-formed topic in
     let stored = stored-all _ _ (client-is client) (bucket-is bucket) (tracker-is tracker) (c .before .count-on .ensures) in
-    inspected ruleMatches _ _ _ _ (formed .before .well-formed .ensures) (formed .if1 .left) (topic .before .used .ensures) (topic .if2 .left)
+    inspected _ _ _ _ _ (formed .before .well-formed .ensures) (formed .if1 .left) (topic .before .used .ensures) (topic .if2 .left)
     (payload .before .used2 .ensures) (payload .if3 .left) (plan .plan-for .ensures) stored
 
 pub inspect-spec : {M : Type 1} → statement M

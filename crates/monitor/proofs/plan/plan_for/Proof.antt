@@ -1,6 +1,6 @@
 -- `plan::plan_for` meets its contract: it is what its calls on parts of the state hand back, together (PlanLaws). Assumes nothing.
 use borrow.Author.Needs.{needs}
-use Rattle.tables.specs.Rules.{ruleMatches}
+use Rattle.monitor.specs.State.{matcherOf}
 use Rattle.monitor.proofs.plan.PlanLaws.{composed}
 use Rattle.monitor.proofs.plan.plan_for.Statement.{statement}
 use Rattle.monitor.proofs.plan.plan_for.Tie as tie
@@ -28,7 +28,7 @@ returns c =
     let seen = c .before .before .before .before .before .before in
     let gate = seen .before .before in
     let a = gate .before .before .before .before .args in
-    composed ruleMatches (a .m) (a .msg) (a .topic .now) (a .payload .now) (gate .gate-for .ensures) (seen .seen-for .ensures) (c .before .before .before .before .before .id-for .ensures)
+    composed (matcherOf (a .m)) (a .m) (a .msg) (a .topic .now) (a .payload .now) (gate .gate-for .ensures) (seen .seen-for .ensures) (c .before .before .before .before .before .id-for .ensures)
     (c .before .before .before .spent-for .ensures) (c .before .fed-for .ensures) (c .plan-from .ensures)
 
 pub plan-for-spec : {M : Type 1} → statement M
