@@ -8,7 +8,7 @@ use lib.Dec.{ltb, leb}
 use lib.ListN.{length}
 use Rattle.slices.specs.Bytes.{bytes}
 use Rattle.lines.specs.Span.{part}
-use Rattle.tables.specs.Rules.{ruleMatches}
+use Rattle.topics.specs.declared.matching.Matching.the-variants.{Port}
 use Rattle.tables.specs.declared.rules.MqttQoS.the-variants.{AtLeastOnce}
 use Rattle.tables.specs.declared.rules.QosPolicy.the-variants.{MinQoS}
 use Rattle.tables.specs.declared.rules.TopicAction.the-variants.{Allow, Block}
@@ -16,6 +16,7 @@ use Rattle.monitor.specs.Alerts.{counted}
 use Rattle.monitor.specs.Calls.{fresh, addRule}
 use Rattle.monitor.specs.Inspect.{applied}
 use Rattle.monitor.specs.Plan.{planOf}
+use Rattle.monitor.specs.State.{matcherOf}
 use Rattle.monitor.specs.declared.message.MqttMessage.{MqttMessage}
 use Rattle.monitor.specs.declared.message.MqttPacketType.the-variants.{Publish}
 use Rattle.monitor.specs.declared.plan.Plan.{Plan}
@@ -54,7 +55,7 @@ withPattern m pattern = addRule m pattern Allow (MinQoS AtLeastOnce) 65535 .moni
 
 -- so many rules that take none of these
 unfoldable pub ruled : ℕ → MqttMonitor
-ruled zero = fresh Block
+ruled zero = fresh Port Block
 ruled (suc k) = withPattern (ruled k) (patternAt k)
 
 -- and one last that takes every topic below `site/+/lamp`
@@ -70,7 +71,7 @@ module _ (n : ℕ) (topics : List ℕ) (width size : ℕ) where
   -- what the k-th message does to a state
   abbrev pub planAt : MqttMonitor → ℕ → Plan
   planAt m k =
-      planOf ruleMatches m (loopMessage width size k) (part topics (fromAt (length topics) width k) (fromAt (length topics) width k + width)) (bytes "on")
+      planOf (matcherOf m) m (loopMessage width size k) (part topics (fromAt (length topics) width k) (fromAt (length topics) width k + width)) (bytes "on")
 
   -- the state after the first messages
   unfoldable pub stateAfter : ℕ → MqttMonitor

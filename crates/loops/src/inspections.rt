@@ -16,6 +16,7 @@ use tables::rules::TopicRule;
 use tables::rules::plan_rule;
 use tables::trackers::TRACKERS;
 use tables::windows::WINDOWS;
+use topics::matching::Matching;
 ghost use mathlib.Core.Bool.{cond};
 ghost use mathlib.Core.Path.{_≡_};
 ghost use Prim.Native.Nat.{_+_, _-_, _≤_, min, max};
@@ -139,7 +140,7 @@ fn readied(others: u32) -> MqttMonitor
 {
     let table = held(others);
     let rules = table.rules;
-    let mut m = fresh(TopicAction::Block);
+    let mut m = fresh(Matching::Port, TopicAction::Block);
     m.rules = rules;
     m.rule_count = table.rule_count;
     m

@@ -1,3 +1,4 @@
+pub mod Chosen
 pub mod Denied
 pub mod FoundLaws
 pub mod Four

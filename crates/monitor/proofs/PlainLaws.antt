@@ -37,7 +37,11 @@ add-plain m p action policy rate h =
     let d = rulePlan (m .rules) (m .«rule_count») p action policy rate in
     by (eqb (tested m (d .number)) 0) (λ e. rw e (ap (λ (x : MqttMonitor). withRules x (set (m .rules) (d .at) (d .rule)) (d .count)) h)) (λ e. rw e h)
 
--- whose default stays
+-- whose default and matcher stay
 pub add-default : (m : MqttMonitor) (p : List ℕ) (action : TopicAction) (policy : QosPolicy) (rate : ℕ) → addRule m p action policy rate .monitor .«default_action» ≡ m .«default_action»
 unfolding addRule
 add-default m p action policy rate = by (eqb (tested m (rulePlan (m .rules) (m .«rule_count») p action policy rate .number)) 0) (λ e. rw e) (λ e. rw e)
+
+pub add-matching : (m : MqttMonitor) (p : List ℕ) (action : TopicAction) (policy : QosPolicy) (rate : ℕ) → addRule m p action policy rate .monitor .matching ≡ m .matching
+unfolding addRule
+add-matching m p action policy rate = by (eqb (tested m (rulePlan (m .rules) (m .«rule_count») p action policy rate .number)) 0) (λ e. rw e) (λ e. rw e)

@@ -13,7 +13,7 @@ use Rattle.monitor.specs.Alerts.{kindsOf}
 use Rattle.monitor.specs.Inspect.{applied, inspectRefusal, inspectWith}
 use Rattle.monitor.specs.Message.{usedTopic, usedPayload}
 use Rattle.monitor.specs.Plan.{planFrom, planOf, findingsIn}
-use Rattle.monitor.specs.Runs.{Call, answer, after, alertsIn}
+use Rattle.monitor.specs.Runs.{Call, answer, afterBy, after, alertsIn}
 use Rattle.monitor.specs.Told.{TotalIsSum}
 use Rattle.monitor.specs.declared.message.MqttMessage.{MqttMessage}
 use Rattle.monitor.specs.declared.state.MqttMonitor.{MqttMonitor}
@@ -46,7 +46,7 @@ total-after matcher m msg topic payload fits =
 -- a run
 total-over : (matcher : List ℕ → List ℕ → Bool) (m : MqttMonitor) (calls : List Call) → m .«total_alerts» ≤ 18446744073709551615
     → after matcher m calls .«total_alerts» ≡ min (m .«total_alerts» + alertsIn matcher m calls) 18446744073709551615
-unfolding after alertsIn
+unfolding afterBy alertsIn
 total-over matcher m [] fits = omega arith
 total-over matcher m (c ∷ cs) fits =
     let step = total-after matcher m (c .msg) (c .topic) (c .payload) fits in

@@ -1,5 +1,6 @@
 pub mod Alerts
 pub mod Calls
+pub mod Chosen
 pub mod Gate
 pub mod Inspect
 pub mod Message

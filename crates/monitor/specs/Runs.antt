@@ -10,7 +10,7 @@ use lib.ListN.{length}
 use Rattle.monitor.specs.Alerts.{kindsAmong}
 use Rattle.monitor.specs.Inspect.{inspectWith}
 use Rattle.monitor.specs.Message.{usedTopic, usedPayload}
-use Rattle.monitor.specs.State.{numberOf}
+use Rattle.monitor.specs.State.{matcherOf, numberOf}
 use Rattle.monitor.specs.declared.alerts.MqttInspectResult.{MqttInspectResult}
 use Rattle.monitor.specs.declared.inspection.Inspected.{Inspected}
 use Rattle.monitor.specs.declared.message.MqttMessage.{MqttMessage}
@@ -26,14 +26,26 @@ pub record Call : Type 0 where
 abbrev pub Exact : Call → Type 0
 Exact c = (length (c .topic) ≡ usedTopic (c .msg)) × (length (c .payload) ≡ usedPayload (c .msg))
 
--- what a call hands back
-abbrev pub answer : (List ℕ → List ℕ → Bool) → MqttMonitor → Call → Inspected
+-- whatever inspects: what it hands back on a state and a call
+abbrev pub Monitor : Type 0
+Monitor = MqttMonitor → Call → Inspected
+
+-- what a call hands back under a matcher of the rules
+abbrev pub answer : (List ℕ → List ℕ → Bool) → Monitor
 answer matcher m c = inspectWith matcher m (c .msg) (c .topic) (c .payload)
 
+-- what the shipped `inspect` hands back: it takes the matcher that its state chose
+abbrev pub shipped : Monitor
+shipped m c = answer (matcherOf m) m c
+
 -- the state after a run of calls
-unfoldable pub after : (List ℕ → List ℕ → Bool) → MqttMonitor → List Call → MqttMonitor
-after matcher m [] = m
-after matcher m (c ∷ cs) = after matcher (answer matcher m c .monitor) cs
+unfoldable pub afterBy : Monitor → MqttMonitor → List Call → MqttMonitor
+afterBy f m [] = m
+afterBy f m (c ∷ cs) = afterBy f (f m c .monitor) cs
+
+-- under a matcher
+abbrev pub after : (List ℕ → List ℕ → Bool) → MqttMonitor → List Call → MqttMonitor
+after matcher = afterBy (answer matcher)
 
 -- a call of a run and what was handed back for it: how it ended, its stage, its verdict and alerts, the next state
 pub record Reply : Type 0 where
@@ -41,9 +53,13 @@ pub record Reply : Type 0 where
   pub given : Inspected
 
 -- the replies of a run, call by call
-unfoldable pub replies : (List ℕ → List ℕ → Bool) → MqttMonitor → List Call → List Reply
-replies matcher m [] = []
-replies matcher m (c ∷ cs) = record { call = c; given = answer matcher m c } ∷ replies matcher (answer matcher m c .monitor) cs
+unfoldable pub repliesBy : Monitor → MqttMonitor → List Call → List Reply
+repliesBy f m [] = []
+repliesBy f m (c ∷ cs) = record { call = c; given = f m c } ∷ repliesBy f (f m c .monitor) cs
+
+-- under a matcher
+abbrev pub replies : (List ℕ → List ℕ → Bool) → MqttMonitor → List Call → List Reply
+replies matcher = repliesBy (answer matcher)
 
 -- its message was inspected, and not refused
 abbrev pub isInspected : Reply → Bool

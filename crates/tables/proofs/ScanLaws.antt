@@ -11,8 +11,19 @@ use borrow.Author.Tests.{le-leb, lt-leb, lt-ltb, le-ltb, ltb-true, leb-true, leb
 use lib.Dec.{leb, ltb}
 use lib.ListN.{length, drop, getD, drop-of-length-le}
 use lib.Seq.{drop-cons}
+use Rattle.laws.specs.Lists.{every}
 use Rattle.laws.proofs.Cases.{by}
+use Rattle.laws.proofs.Every.{every-both}
 use Rattle.tables.specs.Scan.{find, Least, absent, least, inFront, skipped, leastOf, leastPlace, any, seat}
+
+-- two tests that answer alike of such records as a table has find the same place
+pub find-same : {A : Type 0} (s p q : A → Bool) → ((x : A) → s x ≡ true → p x ≡ q x) → (l : List A) → every s l ≡ true → find p l ≡ find q l
+unfolding find
+find-same s p q same [] e = refl
+find-same s p q same (x ∷ l) e =
+    let h = every-both s x l e in
+    let e = same x (h .0) in
+    by (q x) (λ y. rw (e ∙ y, y, find)) (λ y. rw (e ∙ y, y, find, find-same s p q same l (h .1)))
 
 module _ {A : Type 0} (p : A → Bool) (l : List A) {i : ℕ} (d : A) where
   -- the record at a place passes: this is the first that does

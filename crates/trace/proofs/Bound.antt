@@ -10,16 +10,17 @@ use lib.ListN.{length, length-append}
 use borrow.Author.Tests.{eqb-true, eqb-false, leb-true, leb-false}
 use Rattle.laws.proofs.Cases.{by, whichever}
 use Rattle.topics.specs.Patterns.{patternRefusal}
+use Rattle.topics.specs.declared.matching.Matching.{Matching}
 use mathlib.Core.Logic.{_⊎_, inl, inr}
 use Rattle.topics.proofs.patterns.PatternLaws.{refusal-number}
-use Rattle.tables.specs.Rules.{ruleMatches, rulePlan}
+use Rattle.tables.specs.Rules.{rulePlan}
 use Rattle.tables.specs.declared.rules.QosPolicy.{QosPolicy}
 use Rattle.tables.specs.declared.rules.TopicAction.{TopicAction}
 use Rattle.tables.specs.declared.rules.TopicRule.{TopicRule}
 use Rattle.tables.proofs.rules.PlanLaws.{plan-cases}
 use Rattle.monitor.specs.Calls.{fresh, tested, addRule}
 use Rattle.monitor.specs.Runs.{Call}
-use Rattle.monitor.specs.State.{wellFormed, numberOf}
+use Rattle.monitor.specs.State.{wellFormed, matcherOf, numberOf}
 use Rattle.monitor.specs.declared.state.Called.{Called}
 use Rattle.monitor.specs.declared.state.MqttMonitor.{MqttMonitor}
 use Rattle.trace.specs.Groups.{openingOf, ruleAt, messageAt}
@@ -37,8 +38,8 @@ text-short (x ∷ xs) m n number line c h a b =
     rw length-append
     (omega (
       arith,
-      result-short ruleMatches m (x .msg) (x .topic) (x .payload) c n (omega arith),
-      text-short xs _ (n + 1) number line (applied-counted ruleMatches m (x .msg) (x .topic) (x .payload) c) (omega arith) a b,
+      result-short (matcherOf m) m (x .msg) (x .topic) (x .payload) c n (omega arith),
+      text-short xs _ (n + 1) number line (applied-counted (matcherOf m) m (x .msg) (x .topic) (x .payload) c) (omega arith) a b,
     ))
 
 -- the messages from a place on: how many there are at most, and how they end
@@ -109,26 +110,26 @@ rules-few (suc k) s l lines f =
     (record { counted = g .counted; known = g .known; line = omega (arith, g .line, f .line) })
     (record { counted = f .counted; known = f .known; line = omega (arith, f .line) })
 
-fresh-counted : (default : TopicAction) → Counted (fresh default)
+fresh-counted : (matching : Matching) (default : TopicAction) → Counted (fresh matching default)
 unfolding fresh
-fresh-counted default = record { id64 = omega arith; inspected64 = omega arith; total64 = omega arith }
+fresh-counted matching default = record { id64 = omega arith; inspected64 = omega arith; total64 = omega arith }
 
-pub loaded-few : (s : List ℕ) → Few (loaded s) 130
+pub loaded-few : (matching : Matching) (s : List ℕ) → Few (loaded matching s) 130
 unfolding loaded loadedFrom
-loaded-few s =
+loaded-few matching s =
     let w = opening-within s refl in
     whichever (λ (l : Loaded). Few l 130) (leb (length s) 65536)
     (whichever (λ (l : Loaded). Few l 130) (eqb (openingOf s .number) 0)
-    (let start : Loaded = record { number = 0; line = 2; next = openingOf s .next; monitor = fresh (openingOf s .«default_action») } in
-    let r = rules-few (openingOf s .rules) s start 2 (record { counted = fresh-counted _; known = omega arith; line = omega arith }) in
+    (let start : Loaded = record { number = 0; line = 2; next = openingOf s .next; monitor = fresh matching (openingOf s .«default_action») } in
+    let r = rules-few (openingOf s .rules) s start 2 (record { counted = fresh-counted _ _; known = omega arith; line = omega arith }) in
     record { counted = r .counted; known = r .known; line = omega (arith, r .line, w .count) })
-    (record { counted = fresh-counted _; known = omega (arith, w .known); line = omega (arith, w .line) }))
-    (record { counted = fresh-counted _; known = omega arith; line = omega arith })
+    (record { counted = fresh-counted _ _; known = omega (arith, w .known); line = omega (arith, w .line) }))
+    (record { counted = fresh-counted _ _; known = omega arith; line = omega arith })
 
 -- a text that was loaded is not over 65,536 bytes
-pub loaded-short : (s : List ℕ) → loaded s .number ≡ 0 → length s ≤ 65536
+pub loaded-short : (matching : Matching) (s : List ℕ) → loaded matching s .number ≡ 0 → length s ≤ 65536
 unfolding loaded
-loaded-short s e = by (leb (length s) 65536) (λ t. leb-true _ _ t) (λ t. absurd (let z : _≡_ {A = ℕ} 27 0 = rw t at e in omega arith))
+loaded-short matching s e = by (leb (length s) 65536) (λ t. leb-true _ _ t) (λ t. absurd (let z : _≡_ {A = ℕ} 27 0 = rw t at e in omega arith))
 
 -- rules that were loaded go on from where they began
 rule-goes : (m : MqttMonitor) (s : List ℕ) (line at : ℕ) → ruleInto m s line (ruleAt s at) .number ≡ 0 → at ≤ ruleInto m s line (ruleAt s at) .next
@@ -155,9 +156,9 @@ rules-go (suc k) s l e =
     (λ t. rw t (omega arith))
 
 -- the opening of a text that was loaded takes 16 or more
-loaded-further : (s : List ℕ) → loaded s .number ≡ 0 → 16 ≤ loaded s .next
+loaded-further : (matching : Matching) (s : List ℕ) → loaded matching s .number ≡ 0 → 16 ≤ loaded matching s .next
 unfolding loaded loadedFrom
-loaded-further s =
+loaded-further matching s =
     by (leb (length s) 65536)
     (λ t.
     by (eqb (openingOf s .number) 0)
@@ -172,35 +173,35 @@ pub record FewMessages (s : List ℕ) (ms : Messages) : Type 0 where
   pub known : ms .number < 2 ^ 64
   pub last : ms .line < 2 ^ 64
 
-pub messages-few : (s : List ℕ) → FewMessages s (messagesOf s)
+pub messages-few : (matching : Matching) (s : List ℕ) → FewMessages s (messagesOf matching s)
 unfolding messagesOf
-messages-few s =
-    let f = loaded-few s in
-    by (eqb (loaded s .number) 0)
+messages-few matching s =
+    let f = loaded-few matching s in
+    by (eqb (loaded matching s .number) 0)
     (λ t.
-    let z : loaded s .number ≡ 0 = eqb-true _ _ t in
-    let r = sent-few (length s + 1) s (loaded s .next) (loaded s .line) in
+    let z : loaded matching s .number ≡ 0 = eqb-true _ _ t in
+    let r = sent-few (length s + 1) s (loaded matching s .next) (loaded matching s .line) in
     rw t
     (record {
-      within = omega (arith, r, loaded-further s z);
-      most = omega (arith, r, loaded-short s z);
+      within = omega (arith, r, loaded-further matching s z);
+      most = omega (arith, r, loaded-short matching s z);
       known = omega (arith, r);
-      last = omega (arith, r, f .line, loaded-short s z);
+      last = omega (arith, r, f .line, loaded-short matching s z);
     }))
     (λ t. rw t (record { within = omega arith; most = omega arith; known = omega (arith, f .known); last = omega (arith, f .line) }))
 
 -- what they print, with the closing lines
-trace-short : (s : List ℕ) → length (traceText s) ≤ 528 * length (messagesOf s .sent) + 109
+trace-short : (matching : Matching) (s : List ℕ) → length (traceText matching s) ≤ 528 * length (messagesOf matching s .sent) + 109
 unfolding traceText
-trace-short s =
-    let few = messages-few s in
-    let ms = messagesOf s in
-    text-short (ms .sent) (loaded s .monitor) 1 (ms .number) (ms .line) (loaded-few s .counted) (omega (arith, few .most)) (few .known) (few .last)
+trace-short matching s =
+    let few = messages-few matching s in
+    let ms = messagesOf matching s in
+    text-short (ms .sent) (loaded matching s .monitor) 1 (ms .number) (ms .line) (loaded-few matching s .counted) (omega (arith, few .most)) (few .known) (few .last)
 
 -- a room of 12 bytes for each byte of the text, and of 109 at least, is enough for what a trace prints
-pub trace-within : (s : List ℕ) (room : ℕ) → 12 * length s ≤ room → 109 ≤ room → length (traceText s) ≤ room
-trace-within s room h g = omega (arith, h, g, trace-short s, messages-few s .within)
+pub trace-within : (matching : Matching) (s : List ℕ) (room : ℕ) → 12 * length s ≤ room → 109 ≤ room → length (traceText matching s) ≤ room
+trace-within matching s room h g = omega (arith, h, g, trace-short matching s, messages-few matching s .within)
 
 -- what any trace prints fits into a buffer of that size
-pub trace-enough : (s : List ℕ) → length (traceText s) ≤ enough
-trace-enough s = omega (arith, trace-short s, messages-few s .most)
+pub trace-enough : (matching : Matching) (s : List ℕ) → length (traceText matching s) ≤ enough
+trace-enough matching s = omega (arith, trace-short matching s, messages-few matching s .most)

@@ -1,4 +1,5 @@
--- Document 01, "The trace": a whole trace. It is an opening with its rules, a list of messages, and an end; the text that goes out is a fold over that list.
+-- Document 01, "The trace": a whole trace. It is an opening with its rules, a list of messages, and an end; the text that goes out is a fold over that list. The text says nothing of
+-- the matcher: whoever asks for a trace chooses it (request C-15), and what is read is the same under either (specs/AsRun.antt).
 -- Assumes nothing.
 use mathlib.Core.Bool.{Bool, cond}
 use mathlib.Core.List.{List, [], _∷_, _++_}
@@ -6,13 +7,13 @@ use Prim.Native.Nat.{ℕ, zero, suc, _+_}
 use lib.Dec.{eqb, leb}
 use lib.ListN.{length}
 use lib.Seq.{sets}
-use Rattle.tables.specs.Rules.{ruleMatches}
+use Rattle.topics.specs.declared.matching.Matching.{Matching}
 use Rattle.tables.specs.declared.rules.TopicAction.the-variants.{Allow}
 use Rattle.monitor.specs.Calls.{fresh, addRule}
 use Rattle.monitor.specs.Inspect.{applied, resultOf}
 use Rattle.monitor.specs.Plan.{planOf}
 use Rattle.monitor.specs.Runs.{Call}
-use Rattle.monitor.specs.State.{numberOf}
+use Rattle.monitor.specs.State.{matcherOf, numberOf}
 use Rattle.monitor.specs.declared.plan.Plan.{Plan}
 use Rattle.monitor.specs.declared.state.MqttMonitor.{MqttMonitor}
 use Rattle.trace.specs.Groups.{openingOf, ruleAt, patternIn, messageAt, topicIn, payloadIn}
@@ -57,15 +58,15 @@ rulesInto zero s l = l
 rulesInto (suc k) s l = cond (eqb (l .number) 0) (rulesInto k s (ruleInto (l .monitor) s (l .line) (ruleAt s (l .next)))) l
 
 -- the opening and its rules: a fresh monitor with them, or where it stopped
-unfoldable pub loadedFrom : List ℕ → OpeningLines → Loaded
-loadedFrom s o =
+unfoldable pub loadedFrom : Matching → List ℕ → OpeningLines → Loaded
+loadedFrom matching s o =
     cond (eqb (o .number) 0)
-    (rulesInto (o .rules) s (record { number = 0; line = 2; next = o .next; monitor = fresh (o .«default_action») }))
-    (notLoaded (o .number) (1 + o .line) (o .next) (fresh (o .«default_action»)))
+    (rulesInto (o .rules) s (record { number = 0; line = 2; next = o .next; monitor = fresh matching (o .«default_action») }))
+    (notLoaded (o .number) (1 + o .line) (o .next) (fresh matching (o .«default_action»)))
 
 -- 27 for input over 65,536 bytes is tested first, line 0
-unfoldable pub loaded : List ℕ → Loaded
-loaded s = cond (leb (length s) 65536) (loadedFrom s (openingOf s)) (notLoaded 27 0 0 (fresh Allow))
+unfoldable pub loaded : Matching → List ℕ → Loaded
+loaded matching s = cond (leb (length s) 65536) (loadedFrom matching s (openingOf s)) (notLoaded 27 0 0 (fresh matching Allow))
 
 -- the monitor's default and rules, which say all of it: the rest is as in a fresh one (proofs/run/LoadLaws.antt, `loaded-monitor`)
 abbrev pub rulesOf : Loaded → LoadedRules
@@ -99,13 +100,13 @@ messagesFrom (suc k) s at line =
     (endedBy (messageAt s at .number) (line + 1 + messageAt s at .line)))
 
 -- all messages of a trace: none where its opening or a rule was refused
-unfoldable pub messagesOf : List ℕ → Messages
-messagesOf s =
-    cond (eqb (loaded s .number) 0) (messagesFrom (length s + 1) s (loaded s .next) (loaded s .line)) (endedBy (loaded s .number) (loaded s .line))
+unfoldable pub messagesOf : Matching → List ℕ → Messages
+messagesOf matching s =
+    let l = loaded matching s in cond (eqb (l .number) 0) (messagesFrom (length s + 1) s (l .next) (l .line)) (endedBy (l .number) (l .line))
 
--- what a message does to the monitor
+-- what a message does to the monitor, whose own matcher chooses the rule
 abbrev pub planned : MqttMonitor → Call → Plan
-planned m x = planOf ruleMatches m (x .msg) (x .topic) (x .payload)
+planned m x = planOf (matcherOf m) m (x .msg) (x .topic) (x .payload)
 
 -- the records of messages from the n-th on, then the closing lines
 unfoldable pub textFrom : MqttMonitor → ℕ → List Call → ℕ → ℕ → List ℕ
@@ -113,8 +114,9 @@ textFrom m n [] number line = closingText number line (m .«total_inspected») (
 textFrom m n (x ∷ xs) number line = recordText n (resultOf (planned m x)) ++ textFrom (applied m (planned m x)) (n + 1) xs number line
 
 -- what a trace prints
-unfoldable pub traceText : List ℕ → List ℕ
-traceText s = textFrom (loaded s .monitor) 1 (messagesOf s .sent) (messagesOf s .number) (messagesOf s .line)
+unfoldable pub traceText : Matching → List ℕ → List ℕ
+traceText matching s =
+    let ms = messagesOf matching s in textFrom (loaded matching s .monitor) 1 (ms .sent) (ms .number) (ms .line)
 
 -- room for what any trace prints, 12 bytes for each of 65,536: a message takes at least the 44 bytes of its keys and LFs and prints at most 528, which is 12 times
 -- as much; the closing lines are at most 109, less than 12 times the bytes of an opening (proofs/Bound.antt)
@@ -122,16 +124,16 @@ abbrev pub enough : ℕ
 enough = 786432
 
 -- how a trace ends where all its lines are written
-abbrev pub wholeEnd : List ℕ → TraceEnd
-wholeEnd s = record { number = messagesOf s .number; line = messagesOf s .line; length = length (traceText s) }
+abbrev pub wholeEnd : Matching → List ℕ → TraceEnd
+wholeEnd matching s = record { number = messagesOf matching s .number; line = messagesOf matching s .line; length = length (traceText matching s) }
 
 -- how it ends, in a buffer of so much room: 28 where that is shorter than all lines
-unfoldable pub traceEnd : ℕ → List ℕ → TraceEnd
-traceEnd room s = cond (leb (length (traceText s)) room) (wholeEnd s) (record { number = 28; line = 0; length = 0 })
+unfoldable pub traceEnd : Matching → ℕ → List ℕ → TraceEnd
+traceEnd matching room s = cond (leb (length (traceText matching s)) room) (wholeEnd matching s) (record { number = 28; line = 0; length = 0 })
 
 -- the buffer after it: 28 leaves it as it was
-unfoldable pub traceKept : List ℕ → List ℕ → List ℕ
-traceKept d s = cond (leb (length (traceText s)) (length d)) (sets d 0 (traceText s)) d
+unfoldable pub traceKept : Matching → List ℕ → List ℕ → List ℕ
+traceKept matching d s = cond (leb (length (traceText matching s)) (length d)) (sets d 0 (traceText matching s)) d
 
 -- a buffer after a text that a pass writes at a place, or only counts
 abbrev pub putIf : Bool → List ℕ → ℕ → List ℕ → List ℕ

@@ -27,6 +27,7 @@ use tables::rules::TopicRule;
 use tables::rules::plan_rule;
 use tables::trackers::TRACKERS;
 use tables::windows::WINDOWS;
+use topics::matching::Matching;
 ghost use mathlib.Core.Bool.{true, _&&_};
 ghost use mathlib.Core.Path.{_≡_};
 ghost use Prim.Native.Nat.{_+_, _*_, _≤_};
@@ -71,9 +72,9 @@ fn buffer_256() -> [u8; PAYLOAD_MAX]
 }
 
 // The opening and its rules. 27 is tested first; a rule that is refused gives its number at its `rate=` line, and rules before it stay loaded. The table of rules is
-// the only part of a monitor that is owned here, and each rule is stored in place.
+// the only part of a monitor that is owned here, and each rule is stored in place. Which matcher the monitor takes changes nothing of it.
 pub fn load(text: &[u8]) -> LoadedRules
-    ensures { λ r. ⌜ r ≡ rulesOf (loaded (now (text .entry))) ⌝ }
+    ensures { λ r. ⌜ r ≡ rulesOf (loaded Matching.Port (now (text .entry))) ⌝ }
 {
     let mut rules = free_rules();
     let mut rule_count = 0;
@@ -198,15 +199,15 @@ fn pass_closing(
 
 // One pass over a trace, which writes its text from the buffer's beginning on, or only counts it. The loop owns the monitor: each table is asked by itself, as `plan_for` does, so that
 // none is copied but for its own search; what was decided is stored, and the message's lines go out.
-fn pass(text: &[u8], out: &mut [u8], write: bool) -> TraceEnd
-    requires { ⌜ (write ≡ true → length (traceText (now text)) ≤ length (now out)) ⌝ }
-    ensures end { λ r. ⌜ r ≡ wholeEnd (now (text .entry)) ⌝ }
-    ensures bytes { λ _. ⌜ now (out .exit) ≡ putIf write (now (out .entry)) 0 (traceText (now (text .entry))) ⌝ }
+fn pass(text: &[u8], matching: Matching, out: &mut [u8], write: bool) -> TraceEnd
+    requires { ⌜ (write ≡ true → length (traceText matching (now text)) ≤ length (now out)) ⌝ }
+    ensures end { λ r. ⌜ r ≡ wholeEnd matching (now (text .entry)) ⌝ }
+    ensures bytes { λ _. ⌜ now (out .exit) ≡ putIf write (now (out .entry)) 0 (traceText matching (now (text .entry))) ⌝ }
 {
     let start = load(text);
     let default_action = start.default_action;
     let rules = start.rules;
-    let mut m = fresh(default_action);
+    let mut m = fresh(matching, default_action);
     m.rules = rules;
     m.rule_count = start.rule_count;
     let mut at = start.next;
@@ -245,7 +246,8 @@ fn pass(text: &[u8], out: &mut [u8], write: bool) -> TraceEnd
         let name = &topic[..topic_len];
         let rules = m.rules;
         let default_action = m.default_action;
-        let gate = gate_for(rules, m.rule_count, default_action, msg, name);
+        let matching = m.matching;
+        let gate = gate_for(rules, m.rule_count, default_action, matching, msg, name);
         let clients = m.connect_windows;
         let seen = seen_for(
             clients,
@@ -306,12 +308,19 @@ fn pass(text: &[u8], out: &mut [u8], write: bool) -> TraceEnd
     pass_closing(out, p, 0, line, m.total_inspected, m.total_alerts, write)
 }
 
-// How a trace ends where there is room for all its lines, and how many bytes they take: the room that `run_trace` needs.
-pub fn trace_length(text: &[u8]) -> TraceEnd
-    ensures { λ r. ⌜ r ≡ wholeEnd (now (text .entry)) ⌝ }
+// How a trace ends where there is room for all its lines, and how many bytes they take: the room that `run_trace_by` needs.
+pub fn trace_length_by(text: &[u8], matching: Matching) -> TraceEnd
+    ensures { λ r. ⌜ r ≡ wholeEnd matching (now (text .entry)) ⌝ }
 {
     let mut unused = [0u8; 1];
-    pass(text, &mut unused, false)
+    pass(text, matching, &mut unused, false)
+}
+
+// The same for `run_trace`.
+pub fn trace_length(text: &[u8]) -> TraceEnd
+    ensures { λ r. ⌜ r ≡ wholeEnd Matching.Port (now (text .entry)) ⌝ }
+{
+    trace_length_by(text, Matching::Port)
 }
 
 // Whether a room is enough for what any text of so many bytes prints: 12 bytes for each of them, and 109 at least.
@@ -325,26 +334,34 @@ fn ample(bytes: usize, room: usize) -> bool
 }
 
 // Whether the room is enough for what a trace prints. Only where it could be too small is that counted.
-fn fits(text: &[u8], room: usize) -> bool
-    ensures { λ r. ⌜ r ≡ leb (length (traceText (now (text .entry)))) room ⌝ }
+fn fits(text: &[u8], matching: Matching, room: usize) -> bool
+    ensures { λ r. ⌜ r ≡ leb (length (traceText matching (now (text .entry)))) room ⌝ }
 {
     if ample(text.len(), room) {
         return true;
     }
-    trace_length(text).length <= room
+    trace_length_by(text, matching).length <= room
 }
 
-// A whole trace into a lent buffer: 28, with nothing written, where the buffer is shorter than all lines.
-pub fn run_trace(text: &[u8], out: &mut [u8]) -> TraceEnd
-    ensures end { λ r. ⌜ r ≡ traceEnd (length (now (out .entry))) (now (text .entry)) ⌝ }
-    ensures bytes { λ _. ⌜ now (out .exit) ≡ traceKept (now (out .entry)) (now (text .entry)) ⌝ }
+// A whole trace into a lent buffer, with rules that are matched as it is told: 28, with nothing written, where the buffer is shorter than all lines.
+pub fn run_trace_by(text: &[u8], matching: Matching, out: &mut [u8]) -> TraceEnd
+    ensures end { λ r. ⌜ r ≡ traceEnd matching (length (now (out .entry))) (now (text .entry)) ⌝ }
+    ensures bytes { λ _. ⌜ now (out .exit) ≡ traceKept matching (now (out .entry)) (now (text .entry)) ⌝ }
 {
-    if !fits(text, out.len()) {
+    if !fits(text, matching, out.len()) {
         return TraceEnd {
             number: 28,
             line: 0,
             length: 0,
         };
     }
-    pass(text, out, true)
+    pass(text, matching, out, true)
+}
+
+// A whole trace as document 01 has it: its rules are matched as the Rust does.
+pub fn run_trace(text: &[u8], out: &mut [u8]) -> TraceEnd
+    ensures end { λ r. ⌜ r ≡ traceEnd Matching.Port (length (now (out .entry))) (now (text .entry)) ⌝ }
+    ensures bytes { λ _. ⌜ now (out .exit) ≡ traceKept Matching.Port (now (out .entry)) (now (text .entry)) ⌝ }
+{
+    run_trace_by(text, Matching::Port, out)
 }

@@ -1,20 +1,24 @@
 -- What is true of one rule, for `rule_fine` and the two tests, and of a search of the rule table, for `equal_rule` and the monitor's `rule_for`. Assumes nothing.
 use mathlib.Core.Bool.{Bool, true, false, not, _&&_}
 use mathlib.Core.List.{List}
-use mathlib.Core.Path.{_≡_, sym}
+use mathlib.Core.Path.{_≡_, sym, ap}
 use Prim.Native.Nat.{ℕ, _+_, _≤_, _<_, min}
 use native.Mathlib.Omega.{arith}
 use borrow.Author.Tests.{lt-leb, le-leb, leb-true, eqb-true, not-true, not-false}
 use lib.Dec.{eqb, leb}
 use lib.ListN.{length, take, drop, getD, length-take}
 use lib.Seq.{getD-take}
+use Rattle.laws.specs.Lists.{every}
 use Rattle.laws.proofs.Tests.{both}
 use Rattle.laws.proofs.Lists.{take-min}
+use Rattle.topics.specs.Matching.{matchesWith, ruleWith}
 use Rattle.topics.specs.Patterns.{patternRefusal}
+use Rattle.topics.proofs.matching.Meaning.{meaning}
+use Rattle.topics.proofs.patterns.PatternLaws.{accepted-placed}
 use Rattle.tables.specs.declared.rules.TopicRule.{TopicRule}
 use Rattle.tables.specs.Scan.{find}
-use Rattle.tables.specs.Rules.{patternOf, ruleFine, noRule}
-use Rattle.tables.proofs.ScanLaws.{find-here, find-next, find-done}
+use Rattle.tables.specs.Rules.{patternOf, ruleFine, noRule, firstRule}
+use Rattle.tables.proofs.ScanLaws.{find-same, find-here, find-next, find-done}
 
 module _ (r : TopicRule) where
   -- the bytes that the code lends are the rule's pattern
@@ -61,3 +65,11 @@ module _ (q : List ℕ → Bool) (rules : List TopicRule) (count : ℕ) (i : ℕ
 
   pub seek-done : i ≤ n → n ≤ i → i ≡ find (passing q) (take count rules)
   seek-done h g = let m = many in find-done (passing q) (take count rules) (omega arith) (omega arith) found
+
+-- of rules as `add_rule` leaves them the first that takes a topic is the first that does so level by level
+pub first-levels : (f d : Bool) (t : List ℕ) (rules : List TopicRule) (n : ℕ) → every ruleFine (take n rules) ≡ true
+    → firstRule (matchesWith f d) t rules n ≡ firstRule (ruleWith f d) t rules n
+unfolding firstRule
+first-levels f d t rules n w =
+    find-same ruleFine (passing (matchesWith f d t)) (passing (ruleWith f d t))
+    (λ r e. ap (λ (b : Bool). r .active && b) (meaning f d t (patternOf r) (accepted-placed (patternOf r) (fine-says r e .2)))) (take n rules) w

@@ -14,12 +14,13 @@ use Rattle.laws.proofs.Cases.{by}
 use Rattle.laws.proofs.Fuel.{fuel}
 use Rattle.lines.specs.Wrote.{Wrote, placeAfter}
 use Rattle.lines.proofs.put.WroteLaws.{wrote-then}
-use Rattle.tables.specs.Rules.{ruleMatches}
+use Rattle.topics.specs.declared.matching.Matching.{Matching}
+use Rattle.topics.specs.declared.matching.Matching.the-variants.{Port}
 use Rattle.monitor.specs.Calls.{fresh}
 use Rattle.monitor.specs.Inspect.{applied, resultOf}
 use Rattle.monitor.specs.Plan.{planOf}
 use Rattle.monitor.specs.Runs.{Call}
-use Rattle.monitor.specs.State.{withRules}
+use Rattle.monitor.specs.State.{matcherOf, withRules}
 use Rattle.monitor.specs.declared.plan.Plan.{Plan}
 use Rattle.monitor.specs.declared.state.MqttMonitor.{MqttMonitor}
 use Rattle.trace.specs.Groups.{messageAt, topicIn, payloadIn}
@@ -30,7 +31,7 @@ use Rattle.trace.specs.declared.run.LoadedRules.{LoadedRules}
 use Rattle.trace.specs.declared.run.TraceEnd.{TraceEnd}
 use Rattle.trace.proofs.Bound.{loaded-few, loaded-short, trace-enough}
 use Rattle.trace.proofs.groups.GroupLaws.{message-further}
-use Rattle.trace.proofs.run.LoadLaws.{loaded-monitor}
+use Rattle.trace.proofs.run.LoadLaws.{loaded-monitor, same-rules}
 
 -- a message that was read ends further on
 pub read-further : (s : List ℕ) (at : ℕ) {r : MessageLines} → r ≡ messageAt s at → r .number ≡ 0 → at + 44 ≤ r .next
@@ -101,7 +102,7 @@ module _ (s : List ℕ) where
 
   -- what a message that was read does, by what its reader and the plan handed back
   pub plan-sent : (at : ℕ) (m : MqttMonitor) {r : MessageLines} {topic payload : List ℕ} {plan : Plan} → r ≡ messageAt s at → topic ≡ topicIn s r
-      → payload ≡ payloadIn s r → plan ≡ planOf ruleMatches m (r .msg) topic payload → plan ≡ planned m (sentAt at)
+      → payload ≡ payloadIn s r → plan ≡ planOf (matcherOf m) m (r .msg) topic payload → plan ≡ planned m (sentAt at)
   plan-sent at m e t p q = rw (t, p, e) at q
 
 -- a text after another
@@ -118,44 +119,47 @@ put-long true d at t = length-sets d at t
 put-long false d at t = refl
 
 -- a pass stands at a place of the text, after so many lines, with the n-th message to come: `d` is its buffer, `p` its place there, and `m` the monitor
-pub record Going (s : List ℕ) (write : Bool) (d₀ d : List ℕ) (m : MqttMonitor) (n at line p : ℕ) : Type 0 where
+pub record Going (matching : Matching) (s : List ℕ) (write : Bool) (d₀ d : List ℕ) (m : MqttMonitor) (n at line p : ℕ) : Type 0 where
   pub short : length s ≤ 65536
   pub lines : line ≤ 130 + at
   pub ordinal : n ≤ at + 1
   pub long : length d ≡ length d₀
-  pub count : p + length (leftText s m n at line) ≡ length (traceText s)
-  pub bytes : putIf write d p (leftText s m n at line) ≡ putIf write d₀ 0 (traceText s)
-  pub number : left s at line .number ≡ messagesOf s .number
-  pub last : left s at line .line ≡ messagesOf s .line
+  pub count : p + length (leftText s m n at line) ≡ length (traceText matching s)
+  pub bytes : putIf write d p (leftText s m n at line) ≡ putIf write d₀ 0 (traceText matching s)
+  pub number : left s at line .number ≡ messagesOf matching s .number
+  pub last : left s at line .line ≡ messagesOf matching s .line
 
-loaded-messages : (s : List ℕ) → loaded s .number ≡ 0 → messagesOf s ≡ left s (loaded s .next) (loaded s .line)
+loaded-messages : (matching : Matching) (s : List ℕ) → let l = loaded matching s in l .number ≡ 0 → messagesOf matching s ≡ left s (l .next) (l .line)
 unfolding messagesOf
-loaded-messages s z = rw (eq-eqb _ _ z)
+loaded-messages matching s z = rw (eq-eqb _ _ z)
 
--- a pass begins with a fresh monitor that gets the rules
-module _ (s : List ℕ) {l : LoadedRules} (e : l ≡ rulesOf (loaded s)) {m : MqttMonitor} (f : m ≡ fresh (l .«default_action»)) where
-  monitor-is : withRules m (l .rules) (l .«rule_count») ≡ loaded s .monitor
-  monitor-is = rw (f, e) (loaded-monitor s)
+-- a pass begins with a fresh monitor that gets the rules, which are the same for any matcher
+module _ (matching : Matching) (s : List ℕ) {l : LoadedRules} (port : l ≡ rulesOf (loaded Port s)) {m : MqttMonitor} (f : m ≡ fresh matching (l .«default_action»)) where
+  e : l ≡ rulesOf (loaded matching s)
+  e = port ∙ same-rules matching s
 
-  number-is : loaded s .number ≡ l .number
+  monitor-is : withRules m (l .rules) (l .«rule_count») ≡ loaded matching s .monitor
+  monitor-is = rw (f, e) (loaded-monitor matching s)
+
+  number-is : loaded matching s .number ≡ l .number
   number-is = ap (λ (x : LoadedRules). x .number) (sym e)
 
-  line-is : loaded s .line ≡ l .line
+  line-is : loaded matching s .line ≡ l .line
   line-is = ap (λ (x : LoadedRules). x .line) (sym e)
 
-  next-is : loaded s .next ≡ l .next
+  next-is : loaded matching s .next ≡ l .next
   next-is = ap (λ (x : LoadedRules). x .next) (sym e)
 
   -- the messages are taken from the place after the rules
-  pub going-start : (write : Bool) (d : List ℕ) → l .number ≡ 0 → Going s write d d (withRules m (l .rules) (l .«rule_count»)) 1 (l .next) (l .line) 0
+  pub going-start : (write : Bool) (d : List ℕ) → l .number ≡ 0 → Going matching s write d d (withRules m (l .rules) (l .«rule_count»)) 1 (l .next) (l .line) 0
   unfolding traceText
   going-start write d z =
-      let y : loaded s .number ≡ 0 = number-is ∙ z in
-      let t = loaded-messages s y in
+      let y : loaded matching s .number ≡ 0 = number-is ∙ z in
+      let t = loaded-messages matching s y in
       rw (monitor-is, ← next-is, ← line-is)
       (record {
-        short = loaded-short s y;
-        lines = omega (arith, loaded-few s .line);
+        short = loaded-short matching s y;
+        lines = omega (arith, loaded-few matching s .line);
         ordinal = omega arith;
         long = refl;
         count = rw t (omega arith);
@@ -166,30 +170,30 @@ module _ (s : List ℕ) {l : LoadedRules} (e : l ≡ rulesOf (loaded s)) {m : Mq
 
   -- where the rules were not loaded, a trace has only its closing lines
   module _ (z : l .number ≡ 0 → ⊥) where
-    pub unloaded-text : traceText s ≡ closingText (l .number) (l .line) (m .«total_inspected») (m .«total_alerts»)
+    pub unloaded-text : traceText matching s ≡ closingText (l .number) (l .line) (m .«total_inspected») (m .«total_alerts»)
     unfolding traceText messagesOf textFrom
     unloaded-text =
-        let i : loaded s .monitor .«total_inspected» ≡ m .«total_inspected» = ap (λ (x : MqttMonitor). x .«total_inspected») (sym monitor-is) in
-        let a : loaded s .monitor .«total_alerts» ≡ m .«total_alerts» = ap (λ (x : MqttMonitor). x .«total_alerts») (sym monitor-is) in
+        let i : loaded matching s .monitor .«total_inspected» ≡ m .«total_inspected» = ap (λ (x : MqttMonitor). x .«total_inspected») (sym monitor-is) in
+        let a : loaded matching s .monitor .«total_alerts» ≡ m .«total_alerts» = ap (λ (x : MqttMonitor). x .«total_alerts») (sym monitor-is) in
         rw (number-is, ne-eqb _ _ z, line-is, i, a)
 
-    unloaded-messages : messagesOf s ≡ endedBy (l .number) (l .line)
+    unloaded-messages : messagesOf matching s ≡ endedBy (l .number) (l .line)
     unfolding messagesOf
     unloaded-messages = rw (number-is, ne-eqb _ _ z, line-is)
 
     pub unloaded-end : {r : TraceEnd}
         → r ≡ record { number = l .number; line = l .line; length = 0 + length (closingText (l .number) (l .line) (m .«total_inspected») (m .«total_alerts»)) }
-        → r ≡ wholeEnd s
+        → r ≡ wholeEnd matching s
     unloaded-end q =
-        let c : 0 + length (traceText s) ≡ length (traceText s) = omega arith in
+        let c : 0 + length (traceText matching s) ≡ length (traceText matching s) = omega arith in
         q ∙ rw (← unloaded-text, c, unloaded-messages)
 
-module _ {s : List ℕ} {write : Bool} {d₀ d : List ℕ} {m : MqttMonitor} {n at line p : ℕ} (g : Going s write d₀ d m n at line p) where
+module _ {matching : Matching} {s : List ℕ} {write : Bool} {d₀ d : List ℕ} {m : MqttMonitor} {n at line p : ℕ} (g : Going matching s write d₀ d m n at line p) where
   -- its place is one of a buffer that is enough
   pub going-small : p ≤ enough
-  going-small = omega (arith, g .count, trace-enough s)
+  going-small = omega (arith, g .count, trace-enough matching s)
 
-  module _ (ok : write ≡ true → length (traceText s) ≤ length d₀) where
+  module _ (ok : write ≡ true → length (traceText matching s) ≤ length d₀) where
     -- a message that was read
     module _ (h : at < length s) {r : MessageLines} (e : r ≡ messageAt s at) (z : r .number ≡ 0) {plan : Plan} (q : plan ≡ planned m (sentAt s at)) where
       here : leftText s m n at line ≡ recordText n (resultOf plan) ++ leftText s (applied m plan) (n + 1) (r .next) (line + 7)
@@ -201,7 +205,7 @@ module _ {s : List ℕ} {write : Bool} {d₀ d : List ℕ} {m : MqttMonitor} {n 
 
       -- the pass goes on after it
       pub going-turn : {m′ : MqttMonitor} {e′ : List ℕ} {p′ : ℕ} → m′ ≡ applied m plan → p′ ≡ p + length (recordText n (resultOf plan))
-          → e′ ≡ putIf write d p (recordText n (resultOf plan)) → Going s write d₀ e′ m′ (n + 1) (r .next) (line + 7) p′
+          → e′ ≡ putIf write d p (recordText n (resultOf plan)) → Going matching s write d₀ e′ m′ (n + 1) (r .next) (line + 7) p′
       going-turn me pe ee =
           let f = message-further s at (rw e at z) in
           let k = left-turn s at line h (rw e at z) in
@@ -228,12 +232,12 @@ module _ {s : List ℕ} {write : Bool} {d₀ d : List ℕ} {m : MqttMonitor} {n 
       close-room w = omega (arith, ok w, g .count, g .long, ap length close-text)
 
       pub close-end : {r : TraceEnd}
-          → r ≡ record { number = number; line = last; length = p + length (closingText number last (m .«total_inspected») (m .«total_alerts»)) } → r ≡ wholeEnd s
+          → r ≡ record { number = number; line = last; length = p + length (closingText number last (m .«total_inspected») (m .«total_alerts»)) } → r ≡ wholeEnd matching s
       close-end e =
-          let a : number ≡ messagesOf s .number = ap (λ (x : Messages). x .number) (sym q) ∙ g .number in
-          let b : last ≡ messagesOf s .line = ap (λ (x : Messages). x .line) (sym q) ∙ g .last in
-          let c : p + length (closingText number last (m .«total_inspected») (m .«total_alerts»)) ≡ length (traceText s) = rw close-text at (g .count) in
+          let a : number ≡ messagesOf matching s .number = ap (λ (x : Messages). x .number) (sym q) ∙ g .number in
+          let b : last ≡ messagesOf matching s .line = ap (λ (x : Messages). x .line) (sym q) ∙ g .last in
+          let c : p + length (closingText number last (m .«total_inspected») (m .«total_alerts»)) ≡ length (traceText matching s) = rw close-text at (g .count) in
           e ∙ rw (c, a, b)
 
-      pub close-bytes : {e : List ℕ} → e ≡ putIf write d p (closingText number last (m .«total_inspected») (m .«total_alerts»)) → e ≡ putIf write d₀ 0 (traceText s)
+      pub close-bytes : {e : List ℕ} → e ≡ putIf write d p (closingText number last (m .«total_inspected») (m .«total_alerts»)) → e ≡ putIf write d₀ 0 (traceText matching s)
       close-bytes e = e ∙ (rw close-text at (g .bytes))

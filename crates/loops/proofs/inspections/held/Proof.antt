@@ -4,6 +4,7 @@ use mathlib.Core.Logic.{⊎-elim}
 use mathlib.Core.Path.{_≡_, ap}
 use native.Mathlib.Omega.{arith}
 use borrow.Author.Needs.{needs}
+use Rattle.topics.specs.declared.matching.Matching.the-variants.{Port}
 use Rattle.tables.specs.declared.rules.TopicAction.the-variants.{Block}
 use Rattle.tables.proofs.rules.PlanLaws.{plan-place}
 use Rattle.monitor.proofs.PlainLaws.{holding}
@@ -13,7 +14,7 @@ use Rattle.loops.proofs.inspections.held.Statement.{statement}
 use Rattle.loops.proofs.inspections.held.Tie as tie
 
 abbrev Inv-loop : tie.InvT-loop
-Inv-loop others rules₀ rule-count₀ k₀ t12 rules rule-count k = (k ≤ others) × (holding Block rules rule-count ≡ ruled k)
+Inv-loop others rules₀ rule-count₀ k₀ t12 rules rule-count k = (k ≤ others) × (holding Port Block rules rule-count ≡ ruled k)
 
 abbrev μ-loop : tie.MeasureT-loop
 μ-loop others rules₀ rule-count₀ k₀ t12 rules rule-count k = others - k
@@ -42,7 +43,7 @@ mul-rules c = record { fits = omega (arith, array-set-from-rules c) }
 -- the rules after the store, where the ways from its test meet
 rules-are : (c : tie.Joined1 Inv-loop μ-loop)
     → let pattern = c .before .before .before .before in
-    holding Block (c .if1 .rules) (c .if1 .rule-count) ≡ withPattern (ruled (pattern .before .before .loop .k)) (pattern .pattern-at .result)
+    holding Port Block (c .if1 .rules) (c .if1 .rule-count) ≡ withPattern (ruled (pattern .before .before .loop .k)) (pattern .pattern-at .result)
 rules-are c =
     let em = c .before .before .before .before .before .before .loop .inv .1 in
     let e = c .before .before .plan-rule .ensures in

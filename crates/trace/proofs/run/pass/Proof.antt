@@ -8,9 +8,8 @@ use native.Mathlib.Omega.{arith}
 use lib.ListN.{length, take}
 use lib.Seq.{length-take-le}
 use borrow.Author.Needs.{needs}
-use Rattle.tables.specs.Rules.{ruleMatches}
 use Rattle.monitor.specs.Inspect.{storedAt, applied}
-use Rattle.monitor.specs.State.{withCounters}
+use Rattle.monitor.specs.State.{matcherOf, withCounters}
 use Rattle.monitor.proofs.plan.PlanLaws.{composed}
 use Rattle.monitor.proofs.inspection.ApplyLaws.{stored-yes, stored-no, withClients, withBuckets, withTrackers, stored-all}
 use Rattle.trace.specs.Groups.{topicIn, payloadIn}
@@ -24,11 +23,11 @@ use Rattle.trace.proofs.run.pass.Statement.{statement}
 use Rattle.trace.proofs.run.pass.Tie as tie
 
 abbrev Inv-loop : tie.InvT-loop
-Inv-loop text out₀ write m₀ at₀ line₀ topic₀ payload₀ n₀ p₀ out m at line topic payload n p =
-    Going text write out₀ out m n at line p × (length topic ≡ 128) × (length payload ≡ 256)
+Inv-loop text matching out₀ write m₀ at₀ line₀ topic₀ payload₀ n₀ p₀ out m at line topic payload n p =
+    Going matching text write out₀ out m n at line p × (length topic ≡ 128) × (length payload ≡ 256)
 
 abbrev μ-loop : tie.MeasureT-loop
-μ-loop text out₀ write m₀ at₀ line₀ topic₀ payload₀ n₀ p₀ out m at line topic payload n p = length text - at
+μ-loop text matching out₀ write m₀ at₀ line₀ topic₀ payload₀ n₀ p₀ out m at line topic payload n p = length text - at
 
 -- The places of a pass: `at-` leads back to one from the next that has a name, `-of` from further on, or from where the pass ends early.
 -- Before the loop: the start, the rules are loaded, the monitor is made
@@ -107,11 +106,11 @@ fresh-requires c κs = search needs
 unloaded : (c : tie.Then1 Inv-loop μ-loop)
     → let fresh = fresh-of c in
     let loaded = at-load fresh in
-    traceText (at-start loaded .args .text .now)
+    traceText (at-start loaded .args .matching) (at-start loaded .args .text .now)
     ≡ closingText (loaded .load .result .number) (loaded .load .result .line) (fresh .fresh .result .«total_inspected») (fresh .fresh .result .«total_alerts»)
 unloaded c =
     let fresh = fresh-of c in
-    unloaded-text _ (at-load fresh .load .ensures) (fresh .fresh .ensures) (c .if1 .taken)
+    unloaded-text _ _ (at-load fresh .load .ensures) (fresh .fresh .ensures) (c .if1 .taken)
 
 pass-closing-requires : tie.Need-pass-closing-requires Inv-loop μ-loop
 pass-closing-requires c κs =
@@ -125,7 +124,7 @@ returns c =
     let closed = c .before .before in
     let refused = closed .before .before in
     let fresh = fresh-of refused in (
-      unloaded-end _ (at-load fresh .load .ensures) (fresh .fresh .ensures) (refused .if1 .taken) (closed .pass-closing .ensures .0),
+      unloaded-end _ _ (at-load fresh .load .ensures) (fresh .fresh .ensures) (refused .if1 .taken) (closed .pass-closing .ensures .0),
       rw (unloaded refused) (closed .pass-closing .ensures .1),
     )
 
@@ -139,7 +138,7 @@ loop-holds : tie.Need-loop-holds Inv-loop μ-loop
 loop-holds c =
     let good = c .before .before in
     let fresh = good .before .before in
-    (going-start _ (at-load fresh .load .ensures) (fresh .fresh .ensures) _ _ (good .if1 .left), c .before .buffer-128 .ensures, c .buffer-256 .ensures)
+    (going-start _ _ (at-load fresh .load .ensures) (fresh .fresh .ensures) _ _ (good .if1 .left), c .before .buffer-128 .ensures, c .buffer-256 .ensures)
 
 read-message-requires : tie.Need-read-message-requires Inv-loop μ-loop
 read-message-requires c κs = search needs
