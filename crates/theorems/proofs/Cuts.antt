@@ -6,7 +6,7 @@ use Prim.Native.Nat.{ℕ, _≤_}
 use native.Mathlib.Omega.{arith}
 use Rattle.tables.specs.declared.identity.Id.{Id}
 use Rattle.monitor.specs.declared.state.MqttMonitor.{MqttMonitor}
-use Rattle.monitor.specs.Runs.{Call, after}
+use Rattle.monitor.specs.Runs.{Call, Monitor, afterBy}
 use Rattle.theorems.specs.Run.{Matcher, time, rateOf, reaches, InOrder, single, later, OneRate, done, next, arrived}
 
 -- a run that begins at s and ends at e, timestamps never going back
@@ -46,10 +46,10 @@ module _ (z : Call) where
   to-last s (c ∷ pre) r = (r .0, to-last (time c) pre (r .1))
 
 -- the state after two runs
-pub after-two : (matcher : Matcher) (m : MqttMonitor) (pre post : List Call) → after matcher m (pre ++ post) ≡ after matcher (after matcher m pre) post
-unfolding after
-after-two matcher m [] post = refl
-after-two matcher m (c ∷ pre) post = after-two matcher _ pre post
+pub after-two : (f : Monitor) (m : MqttMonitor) (pre post : List Call) → afterBy f m (pre ++ post) ≡ afterBy f (afterBy f m pre) post
+unfolding afterBy
+after-two f m [] post = refl
+after-two f m (c ∷ pre) post = after-two f _ pre post
 
 pub arrived-two : (matcher : Matcher) (m : MqttMonitor) (l : List Id) (pre post : List Call)
     → arrived matcher m l (pre ++ post) ≡ arrived matcher m (arrived matcher m l pre) post

@@ -10,10 +10,9 @@ use Rattle.laws.specs.Lists.{every}
 use Rattle.laws.proofs.Cases.{by}
 use Rattle.laws.proofs.Every.{every-join}
 use Rattle.lines.specs.Span.{part}
-use Rattle.tables.specs.Rules.{ruleMatches}
 use Rattle.monitor.specs.Inspect.{doneWith}
-use Rattle.monitor.specs.Runs.{Call, Exact, Reply, answer, after, replies, isInspected}
-use Rattle.monitor.specs.State.{wellFormed}
+use Rattle.monitor.specs.Runs.{Call, Exact, Reply, shipped, afterBy, repliesBy, isInspected}
+use Rattle.monitor.specs.State.{wellFormed, matcherOf}
 use Rattle.monitor.specs.declared.inspection.Inspected.{Inspected}
 use Rattle.monitor.specs.declared.state.MqttMonitor.{MqttMonitor}
 use Rattle.monitor.proofs.state.KeptFormed.{kept-formed}
@@ -25,14 +24,14 @@ use Rattle.loops.proofs.inspections.LoopLaws.{next-within, all-run}
 use Rattle.theorems.specs.Printed.{passed, callAt, callsTo, loopReplies, LoopLimits}
 use Rattle.theorems.specs.Run.{time, InOrder, nothing, single, later}
 use Rattle.theorems.proofs.Cuts.{after-two}
-use Rattle.theorems.proofs.Printed.{topic-limits}
+use Rattle.theorems.proofs.Printed.{shipped-limits}
 
 -- replies of two runs, one after the other
-replies-two : (m : MqttMonitor) (a b : List Call) → replies ruleMatches m (a ++ b) ≡ replies ruleMatches m a ++ replies ruleMatches (after ruleMatches m a) b
-unfolding replies after
+replies-two : (m : MqttMonitor) (a b : List Call) → repliesBy shipped m (a ++ b) ≡ repliesBy shipped m a ++ repliesBy shipped (afterBy shipped m a) b
+unfolding repliesBy afterBy
 replies-two m [] b = refl
 replies-two m (c ∷ a) b =
-    ap (λ (l : List Reply). record { call = c; given = answer ruleMatches m c } ∷ l) (replies-two (answer ruleMatches m c .monitor) a b)
+    ap (λ (l : List Reply). record { call = c; given = shipped m c } ∷ l) (replies-two (shipped m c .monitor) a b)
 
 passed-two : (a b : List Reply) → passed (a ++ b) ≡ passed a + passed b
 unfolding passed
@@ -74,40 +73,40 @@ module _ (n : ℕ) (topics : List ℕ) (width size : ℕ) (short : width ≤ 128
 
   -- the state after the first messages
   abbrev there : ℕ → MqttMonitor
-  there k = after ruleMatches (readied n) (callsTo n topics width size k)
+  there k = afterBy shipped (readied n) (callsTo n topics width size k)
 
   formed : (k : ℕ) → wellFormed (there k) ≡ true
-  unfolding callsTo after
+  unfolding callsTo afterBy
   formed zero = prepared-sound (readied-prepared n) .formed
   formed (suc k) =
       let c = callAt n topics width size k in
-      rw (after-two ruleMatches (readied n) (callsTo n topics width size k) (c ∷ [])) (kept-formed ruleMatches (there k) (c .msg) (c .topic) (c .payload) (formed k))
+      rw (after-two shipped (readied n) (callsTo n topics width size k) (c ∷ [])) (kept-formed (matcherOf (there k)) (there k) (c .msg) (c .topic) (c .payload) (formed k))
 
-  done : (k : ℕ) → answer ruleMatches (there k) (callAt n topics width size k) ≡ doneWith (there k) (planAt n topics width size (there k) k)
-  done k = exact-done (there k) (callAt n topics width size k) (formed k) (exact k) ruleMatches
+  done : (k : ℕ) → shipped (there k) (callAt n topics width size k) ≡ doneWith (there k) (planAt n topics width size (there k) k)
+  done k = exact-done (there k) (callAt n topics width size k) (formed k) (exact k) (matcherOf (there k))
 
   state : (k : ℕ) → stateAfter n topics width size k ≡ there k
-  unfolding stateAfter callsTo after
+  unfolding stateAfter callsTo afterBy
   state zero = refl
   state (suc k) =
       rw (state k) (sym (ap (λ (i : Inspected). i .monitor) (done k)))
-      ∙ sym (after-two ruleMatches (readied n) (callsTo n topics width size k) (callAt n topics width size k ∷ []))
+      ∙ sym (after-two shipped (readied n) (callsTo n topics width size k) (callAt n topics width size k ∷ []))
 
   -- one message more is one reply more
   one-more : (k : ℕ) → loopReplies n topics width size (suc k)
       ≡ loopReplies n topics width size k
-      ++ (record { call = callAt n topics width size k; given = answer ruleMatches (there k) (callAt n topics width size k) } ∷ [])
-  unfolding callsTo replies
+      ++ (record { call = callAt n topics width size k; given = shipped (there k) (callAt n topics width size k) } ∷ [])
+  unfolding callsTo repliesBy
   one-more k = replies-two (readied n) (callsTo n topics width size k) (callAt n topics width size k ∷ [])
 
   all-inspected : (k : ℕ) → every isInspected (loopReplies n topics width size k) ≡ true
-  unfolding callsTo replies every
+  unfolding callsTo repliesBy every
   all-inspected zero = refl
   all-inspected (suc k) =
       rw (one-more k) (every-join isInspected (loopReplies n topics width size k) _ (all-inspected k) (rw (done k)))
 
   all-counted : (k : ℕ) → allowedAfter n topics width size k ≡ min (passed (loopReplies n topics width size k)) 18446744073709551615
-  unfolding allowedAfter callsTo replies passed
+  unfolding allowedAfter callsTo repliesBy passed
   all-counted zero = refl
   all-counted (suc k) =
       rw (one-more k, passed-two, state k, done k)
@@ -132,6 +131,6 @@ loop-limits n topics width size k short lent =
       counts = all-run n topics width size k short lent ∙ all-counted n topics width size short lent k;
       limits =
           λ t s l.
-          topic-limits ruleMatches (readied-prepared n) (callsTo n topics width size k) (ordered n topics width size short lent k)
+          shipped-limits (readied-prepared n) (callsTo n topics width size k) (ordered n topics width size short lent k)
           (all-inspected n topics width size short lent k) t s l;
     }

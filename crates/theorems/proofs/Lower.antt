@@ -18,7 +18,7 @@ use Rattle.tables.proofs.buckets.BucketLaws.{earned}
 use Rattle.tables.proofs.identity.IdentityLaws.{OfTopic}
 use Rattle.tables.proofs.buckets.StepLaws.{bucketAt, Absent, Step, hit, put}
 use Rattle.monitor.specs.declared.state.MqttMonitor.{MqttMonitor}
-use Rattle.monitor.specs.Runs.{Call, after}
+use Rattle.monitor.specs.Runs.{Call, afterBy, after}
 use Rattle.monitor.specs.Prepared.{Prepared}
 use Rattle.monitor.proofs.Prepared.{all-free}
 use Rattle.theorems.specs.Limits.{LowerFirst, LowerLater}
@@ -75,7 +75,7 @@ arrived-le matcher m₀ (c ∷ cs) l =
 module _ (matcher : Matcher) {m₀ : MqttMonitor} where
   room-run : {m : MqttMonitor} → Like m₀ m → (cs : List Call) {l : List Id} → Seats (m .«rate_buckets») l → length (arrived matcher m₀ l cs) ≤ 32
       → Room (m .«rate_buckets») (after matcher m cs .«rate_buckets») (arrived matcher m₀ l cs)
-  unfolding arrived after
+  unfolding arrived afterBy
   room-run k [] s h = record { seats = s; still = record { stays = λ z a. a } }
   room-run k (c ∷ cs) {l} s h =
       let one = room-turn (k .size) s (le-trans (arrived-le matcher m₀ cs (arrives (rateOf matcher m₀ c) c l)) h) (turn matcher k c) in
@@ -85,20 +85,20 @@ module _ (matcher : Matcher) {m₀ : MqttMonitor} where
   module _ {x : Id} where
     absent-run : {m : MqttMonitor} → Like m₀ m → {cs : List Call} → Silent matcher m₀ x cs → Absent x (m .«rate_buckets»)
         → Absent x (after matcher m cs .«rate_buckets»)
-    unfolding after reaches
+    unfolding afterBy reaches
     absent-run k done a = a
     absent-run k (next {c} q r) a = absent-run (on matcher k c) r (absent-turn (k .named) q a (turn matcher k c))
 
     module _ {R : ℕ} where
       known-run : {m : MqttMonitor} → Like m₀ m → (cs : List Call) {s e : ℕ} → Timed s cs e → OneRate matcher m₀ x R cs → Known x R s (m .«rate_buckets»)
           → Known x R e (after matcher m cs .«rate_buckets»)
-      unfolding after reaches
+      unfolding afterBy reaches
       known-run k [] h r v = known-wait h v
       known-run k (c ∷ cs) h (next q r) v = known-run (on matcher k c) cs (h .1) r (known-turn (k .named) q (h .0) v (turn matcher k c))
 
       still-run : {m : MqttMonitor} → Like m₀ m → {cs : List Call} → Silent matcher m₀ x cs → {s : ℕ} → Known x R s (m .«rate_buckets»)
           → Known x R s (after matcher m cs .«rate_buckets»)
-      unfolding after reaches
+      unfolding afterBy reaches
       still-run k done v = v
       still-run k (next {c} q r) v = still-run (on matcher k c) r (still-turn (k .named) q v (turn matcher k c))
 
@@ -132,7 +132,7 @@ lower-first matcher m p x before z o h q rz =
     first-allowed (kz .named) x (of-used z) (r .1) (kz .size) (s .seats) n (absent-run matcher k q (no-one p x)) (step-of (r .0) (turn matcher kz z))
 
 pub lower-later : LowerLater
-unfolding reaches arrived after
+unfolding reaches arrived afterBy
 lower-later matcher m p x R before between y z o h u ry q rz g =
     let a = both (ltb 0 (rateOf matcher m y)) (isOf x (idOf (used y))) ry in
     let b = both (ltb 0 (rateOf matcher m z)) (isOf x (idOf (used z))) rz in

@@ -14,17 +14,17 @@ use Rattle.laws.proofs.Cases.{by}
 use Rattle.laws.proofs.Every.{every-front, every-back}
 use Rattle.slices.specs.Bytes.{same}
 use Rattle.slices.proofs.bytes.SameLaws.{same-true, same-refl}
-use Rattle.tables.specs.Rules.{ruleMatches}
 use Rattle.tables.specs.Identity.{idOf, isOf}
 use Rattle.tables.proofs.identity.IdentityLaws.{is-of-refl, is-of-exact}
 use Rattle.monitor.specs.Inspect.{inspectRefusal, inspectWith}
 use Rattle.monitor.specs.Prepared.{Prepared}
-use Rattle.monitor.specs.Runs.{Call, Reply, answer, after, replies, isInspected, isPassed}
-use Rattle.monitor.specs.State.{numberOf}
+use Rattle.monitor.specs.Runs.{Call, Reply, answer, shipped, after, repliesBy, replies, isInspected, isPassed}
+use Rattle.monitor.specs.State.{matcherOf, numberOf}
 use Rattle.monitor.specs.declared.state.MqttMonitor.{MqttMonitor}
+use Rattle.monitor.proofs.Chosen.{one-matcher}
 use Rattle.monitor.proofs.Prepared.{prepared-sound}
 use Rattle.trace.specs.Trace.{messagesOf}
-use Rattle.trace.proofs.AsRun.{as-run}
+use Rattle.trace.proofs.AsRun.{as-run, same-read}
 use Rattle.theorems.specs.Printed.{publishes, isQuiet, passedOf, topicRate, calls, TopicLimits, PrintedLimits}
 use Rattle.theorems.specs.Run.{Matcher, time, isAllowed, used, isPublish, isName, rateOf, reaches, InOrder, nothing, single, later, OneRate, done, next, Silent, allowedOf, arrived}
 use Rattle.theorems.proofs.Lower.{lower-first, lower-later}
@@ -45,7 +45,7 @@ ordered (c ∷ d ∷ a) b (later h o) = later h (ordered (d ∷ a) b o)
 module _ (matcher : Matcher) where
   -- the replies to a run are to its calls
   calls-of : (m : MqttMonitor) (cs : List Call) → calls (replies matcher m cs) ≡ cs
-  unfolding replies
+  unfolding repliesBy
   calls-of m [] = refl
   calls-of m (c ∷ cs) = ap (λ (l : List Call). c ∷ l) (calls-of (answer matcher m c .monitor) cs)
 
@@ -56,7 +56,7 @@ module _ (matcher : Matcher) where
     second : post ≡ replies matcher (after matcher m (calls pre)) (calls post)
 
   cut : (m : MqttMonitor) (cs : List Call) (pre post : List Reply) → replies matcher m cs ≡ pre ++ post → Cut m cs pre post
-  unfolding replies after
+  unfolding repliesBy afterBy
   cut m cs [] post e =
       let w : cs ≡ calls post = sym (calls-of m cs) ∙ ap calls e in
       record { whole = w; first = refl; second = sym e ∙ ap (replies matcher m) w }
@@ -74,7 +74,7 @@ module _ (matcher : Matcher) where
   -- a reply at the head of a run's is what `inspect` hands back there
   head : (m : MqttMonitor) (z : Reply) (rest : List Reply) → z ∷ rest ≡ replies matcher m (calls (z ∷ rest))
       → z ≡ record { call = z .call; given = answer matcher m (z .call) }
-  unfolding replies
+  unfolding repliesBy
   head m z rest e = head-eq-of-cons-eq e
 
   -- a call that is inspected is not refused
@@ -155,7 +155,7 @@ module _ (matcher : Matcher) where
 
     count : {m : MqttMonitor} → Like m₀ m → (cs : List Call) → every isInspected (replies matcher m cs) ≡ true
         → passedOf t (replies matcher m cs) ≡ allowedOf matcher m (idOf t) cs
-    unfolding replies passedOf allowedOf every
+    unfolding repliesBy passedOf allowedOf every
     count k [] i = refl
     count {m} k (c ∷ cs) i =
         let b = both (eqb (numberOf (answer matcher m c .outcome)) 0) (every isInspected (replies matcher (answer matcher m c .monitor) cs)) i in
@@ -259,8 +259,14 @@ module _ (matcher : Matcher) where
             lower-later = λ first middle rest y z e few hy q hz g. later-passes first middle rest y z e few hy q hz g;
           }
 
--- of every text
+-- of the shipped `inspect`, which takes the matcher of the state that its run began with
+pub shipped-limits : {m : MqttMonitor} → Prepared m → (cs : List Call) → InOrder cs → every isInspected (repliesBy shipped m cs) ≡ true
+    → (t : List ℕ) → length t ≤ 32 → 0 < topicRate (matcherOf m) m t → TopicLimits (matcherOf m) m t (topicRate (matcherOf m) m t) (repliesBy shipped m cs)
+shipped-limits {m} p cs o i t short limited =
+    let e = one-matcher m cs .told in rw e (topic-limits (matcherOf m) p cs o (rw e at i) t short limited)
+
+-- of every text, under either matcher
 pub printed-limits : PrintedLimits
-printed-limits s =
-    let r = as-run s in
-    record { as-run = r; limits = λ o t short limited. topic-limits ruleMatches (r .prepared) (messagesOf s .sent) o (r .inspected) t short limited }
+printed-limits matching s =
+    let r = as-run matching s in
+    (record { as-run = r; limits = rw (r .choice) at (shipped-limits (r .prepared) (messagesOf matching s .sent)) }, same-read s)

@@ -92,7 +92,7 @@ facts =
 
 -- our own runs and counts are those of specs/Run.antt
 after-ours : (m : MqttMonitor) (cs : List Call) → afterBy (answer portMatches) m cs ≡ after portMatches m cs
-unfolding afterBy after
+unfolding afterBy afterBy
 after-ours m [] = refl
 after-ours m (c ∷ cs) = after-ours (answer portMatches m c .monitor) cs
 

@@ -16,7 +16,7 @@ use Rattle.monitor.specs.Gate.{rulingOf, gateAfter, gateOf}
 use Rattle.monitor.specs.Inspect.{applied, inspectRefusal, inspectWith}
 use Rattle.monitor.specs.Plan.{seenOf, spentOf, fedOf, denialOf, planFrom, planOf}
 use Rattle.monitor.specs.State.{wellFormed}
-use Rattle.monitor.specs.Runs.{after}
+use Rattle.monitor.specs.Runs.{afterBy}
 use Rattle.theorems.specs.Run.{firstRate, rateOf, reaches, allowedOf}
 use Rattle.theorems.specs.Slips.{Slips}
 use Rattle.theorems.specs.Tight.{hub, publish, crowd}
@@ -25,5 +25,5 @@ pub slips : Slips
 unfolding matchBytes fromSlash takesNone takesEnd firstLevel restLevels same has wellPlaced countOf patternRefusal fnv1a djb2 suffixHash prefixOf idOf
     isOf find leastOf refilled spend isExpired holdsBucket newcomer decide qosOk ruleFine equalRule firstRule covered shadowedAfter severityOf hashOf
     kindsOf raise raiseAll fresh rulePlan addRule rulingOf gateAfter gateOf applied inspectRefusal inspectWith seenOf spentOf fedOf denialOf planFrom
-    planOf every wellFormed after firstRate rateOf reaches allowedOf hub publish crowd
+    planOf every wellFormed afterBy firstRate rateOf reaches allowedOf hub publish crowd
 slips = record { replaced = refl; expired = refl; capped = refl }

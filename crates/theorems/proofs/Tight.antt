@@ -9,6 +9,7 @@ use Rattle.topics.specs.Hashes.{fnv1a, djb2, suffixHash}
 use Rattle.topics.specs.Levels.{firstLevel, restLevels}
 use Rattle.topics.specs.Matching.{fromSlash, takesNone, takesEnd, matchBytes}
 use Rattle.topics.specs.Patterns.{wellPlaced, patternRefusal}
+use Rattle.topics.specs.declared.matching.Matching.the-variants.{Port}
 use Rattle.tables.specs.Buckets.{refilled, spend, isExpired, holdsBucket, newcomer, decide}
 use Rattle.tables.specs.Identity.{prefixOf, idOf, isOf}
 use Rattle.tables.specs.Rules.{qosOk, ruleFine, equalRule, firstRule, covered, shadowedAfter, rulePlan}
@@ -21,14 +22,14 @@ use Rattle.monitor.specs.Gate.{rulingOf, gateAfter, gateOf}
 use Rattle.monitor.specs.Inspect.{applied, inspectRefusal, inspectWith}
 use Rattle.monitor.specs.Plan.{seenOf, spentOf, fedOf, denialOf, planFrom, planOf}
 use Rattle.monitor.specs.State.{wellFormed}
-use Rattle.monitor.specs.Runs.{after}
+use Rattle.monitor.specs.Runs.{afterBy}
 use Rattle.monitor.specs.Prepared.{Prepared, made, rule}
 use Rattle.theorems.specs.Run.{InOrder, single, later, done, next, firstRate, rateOf, reaches, allowedOf, isAmong, arrived}
 use Rattle.theorems.specs.Tight.{hub, publish, busy, Met, waits, MetLater, crowd, Night}
 
 pub hub-prepared : (rate : ℕ) → Prepared (hub rate)
 unfolding hub
-hub-prepared rate = rule (made Block) (bytes "m/+") Allow Any rate
+hub-prepared rate = rule (made Port Block) (bytes "m/+") Allow Any rate
 
 busy-in-order : InOrder busy
 unfolding busy publish
@@ -49,7 +50,7 @@ pub tight : Met × MetLater × Night
 unfolding matchBytes fromSlash takesNone takesEnd firstLevel restLevels same has wellPlaced countOf patternRefusal fnv1a djb2 suffixHash prefixOf idOf
     isOf find leastOf refilled spend isExpired holdsBucket newcomer decide qosOk ruleFine equalRule firstRule covered shadowedAfter severityOf hashOf
     kindsOf raise raiseAll fresh rulePlan addRule rulingOf gateAfter gateOf applied inspectRefusal inspectWith seenOf spentOf fedOf denialOf planFrom
-    planOf every wellFormed after firstRate rateOf reaches allowedOf isAmong arrived hub publish busy crowd
+    planOf every wellFormed afterBy firstRate rateOf reaches allowedOf isAmong arrived hub publish busy crowd
 tight = (
   record { prepared = hub-prepared 2; in-order = busy-in-order; one-rate = next (λ _. refl) (next (λ _. refl) (next (λ _. refl) (next (λ _. refl) done))); exactly = refl },
   record {

@@ -19,7 +19,7 @@ use Rattle.monitor.specs.Inspect.{inspectRefusal}
 use Rattle.monitor.specs.Plan.{gateIn}
 use Rattle.monitor.specs.State.{wellFormed}
 use Rattle.monitor.specs.declared.state.MqttMonitor.{MqttMonitor}
-use Rattle.monitor.specs.Runs.{Call, answer, after}
+use Rattle.monitor.specs.Runs.{Call, answer, afterBy, after}
 use Rattle.monitor.specs.Prepared.{Prepared}
 use Rattle.monitor.proofs.state.KeptFormed.{kept-formed}
 use Rattle.monitor.proofs.Prepared.{all-free}
@@ -100,7 +100,7 @@ on matcher {m₀} {m} k c =
     }
 
 pub on-run : (matcher : Matcher) {m₀ m : MqttMonitor} → Like m₀ m → (cs : List Call) → Like m₀ (after matcher m cs)
-unfolding after
+unfolding afterBy
 on-run matcher k [] = k
 on-run matcher k (c ∷ cs) = on-run matcher (on matcher k c) cs
 

@@ -14,7 +14,7 @@ use Rattle.tables.specs.declared.identity.Id.{Id}
 use Rattle.tables.specs.declared.buckets.RateBucket.{RateBucket}
 use Rattle.tables.proofs.buckets.BucketLaws.{one}
 use Rattle.monitor.specs.declared.state.MqttMonitor.{MqttMonitor}
-use Rattle.monitor.specs.Runs.{Call, answer, after}
+use Rattle.monitor.specs.Runs.{Call, answer, afterBy, after}
 use Rattle.theorems.specs.Limits.{Upper}
 use Rattle.theorems.specs.Run.{Matcher, time, isAllowed, used, rateOf, reaches, OneRate, next, allowedOf}
 use Rattle.theorems.proofs.Budget.{Inv, spare, bounded, quiet, reopen, own, other}
@@ -47,7 +47,7 @@ module _ (matcher : Matcher) {x : Id} {R : ℕ} {m₀ : MqttMonitor} where
 
   run : {m : MqttMonitor} → Like m₀ m → (cs : List Call) {s e u B : ℕ} → Timed s cs e → OneRate matcher m₀ x R cs → Inv x R (m .«rate_buckets») s u B
       → Inv x R (after matcher m cs .«rate_buckets») e (u + 1000000 * allowedOf matcher m x cs) B
-  unfolding after allowedOf
+  unfolding afterBy allowedOf
   run k [] {u = u} h r v = rw (add-zero u) (quiet h v)
   run {m} k (c ∷ cs) {e = e} {u = u} {B = B} h (next q r) v =
       rw (sum (reaches matcher m x c && isAllowed matcher m c) u (allowedOf matcher (answer matcher m c .monitor) x cs))

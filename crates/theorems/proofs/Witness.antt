@@ -24,7 +24,7 @@ use Rattle.monitor.specs.Calls.{fresh, addRule}
 use Rattle.monitor.specs.Gate.{rulingOf, gateAfter, gateOf}
 use Rattle.monitor.specs.Inspect.{applied, inspectRefusal, inspectWith}
 use Rattle.monitor.specs.Plan.{seenOf, spentOf, fedOf, denialOf, planFrom, planOf}
-use Rattle.monitor.specs.Runs.{replies}
+use Rattle.monitor.specs.Runs.{repliesBy}
 use Rattle.monitor.specs.State.{wellFormed}
 use Rattle.trace.specs.Groups.{openingOf, opening1, opening2, ruleAt, rule1, rule2, rule3, rule4, messageAt, message1, message2, message3, message4, message5, message6, message7}
 use Rattle.trace.specs.Trace.{ruleInto, rulesInto, loadedFrom, loaded, messagesFrom, messagesOf}
@@ -37,7 +37,7 @@ unfolding decimal decimalIn keyed lineAt answered numberField wordField hexField
     begins wordIndex wordOf toByte findByte spanOf firstWord restWords matchBytes fromSlash takesNone takesEnd firstLevel restLevels same has wellPlaced
     countOf patternRefusal fnv1a djb2 suffixHash prefixOf idOf isOf find leastOf refilled spend isExpired holdsBucket newcomer decide qosOk ruleFine equalRule
     firstRule covered shadowedAfter severityOf hashOf kindsOf raise raiseAll fresh rulePlan addRule rulingOf gateAfter gateOf applied inspectRefusal inspectWith
-    seenOf spentOf fedOf denialOf planFrom planOf replies every wellFormed openingOf opening1 opening2 ruleAt rule1 rule2 rule3 rule4 messageAt message1 message2
+    seenOf spentOf fedOf denialOf planFrom planOf repliesBy every wellFormed openingOf opening1 opening2 ruleAt rule1 rule2 rule3 rule4 messageAt message1 message2
     message3 message4 message5 message6 message7 ruleInto rulesInto loadedFrom loaded messagesFrom messagesOf passedOf topicRate firstRate busyText
 witness =
     let a : 0 ≤ 0 = omega arith in

@@ -10,11 +10,13 @@ use lib.ListN.{length}
 use Rattle.laws.specs.Lists.{every}
 use Rattle.slices.specs.Bytes.{same, bytes}
 use Rattle.lines.specs.Span.{part}
-use Rattle.tables.specs.Rules.{ruleMatches}
+use Rattle.topics.specs.Matching.{matchesBy}
+use Rattle.topics.specs.declared.matching.Matching.{Matching}
 use Rattle.monitor.specs.Prepared.{Prepared}
-use Rattle.monitor.specs.Runs.{Call, Reply, replies, isInspected, isPassed}
+use Rattle.monitor.specs.State.{matcherOf}
+use Rattle.monitor.specs.Runs.{Call, Reply, shipped, repliesBy, isInspected, isPassed}
 use Rattle.monitor.specs.declared.state.MqttMonitor.{MqttMonitor}
-use Rattle.trace.specs.AsRun.{AsRun, repliesOf}
+use Rattle.trace.specs.AsRun.{AsRun, SameRead, repliesOf}
 use Rattle.trace.specs.Trace.{loaded, messagesOf}
 use Rattle.loops.specs.Inspections.{fromAt, loopMessage, readied, loopAllowed}
 use Rattle.theorems.specs.Run.{Matcher, time, used, isPublish, firstRate, rulesIn, isName, InOrder, arrived}
@@ -65,13 +67,13 @@ pub record TopicLimits (matcher : Matcher) (m : MqttMonitor) (t : List ℕ) (R :
       → publishes t y ≡ true → isQuiet t middle ≡ true → publishes t z ≡ true
       → 1000000 ≤ R * between y z → isPassed z ≡ true
 
--- TRACES. For any text: what it prints are the replies of `inspect`, message by message (`as-run`); and where its timestamps never go back, each topic that its rules limit is
--- limited in them as demand 3 says
-pub record Printed (s : List ℕ) : Type 0 where
-  pub as-run : AsRun s
+-- TRACES. For either matcher and any text: what it prints are the replies of `inspect`, message by message (`as-run`); and where its timestamps never go back, each topic that its
+-- rules limit is limited in them as demand 3 says
+pub record Printed (matching : Matching) (s : List ℕ) : Type 0 where
+  pub as-run : AsRun matching s
   pub limits :
-      InOrder (messagesOf s .sent) → (t : List ℕ) → length t ≤ 32 → 0 < topicRate ruleMatches (loaded s .monitor) t
-      → TopicLimits ruleMatches (loaded s .monitor) t (topicRate ruleMatches (loaded s .monitor) t) (repliesOf s)
+      InOrder (messagesOf matching s .sent) → (t : List ℕ) → length t ≤ 32 → 0 < topicRate (matchesBy matching) (loaded matching s .monitor) t
+      → TopicLimits (matchesBy matching) (loaded matching s .monitor) t (topicRate (matchesBy matching) (loaded matching s .monitor) t) (repliesOf matching s)
 
 -- how many replies passed
 unfoldable pub passed : List Reply → ℕ
@@ -96,7 +98,7 @@ module _ (n : ℕ) (topics : List ℕ) (width size : ℕ) where
 
   -- their replies
   abbrev pub loopReplies : ℕ → List Reply
-  loopReplies k = replies ruleMatches (readied n) (callsTo k)
+  loopReplies k = repliesBy shipped (readied n) (callsTo k)
 
   -- it is a run of `inspect` from a fresh monitor that refuses none; it counts the replies that passed, at most 2 ^ 64 - 1; and each topic is limited in them as demand 3 says
   pub record Looped (k : ℕ) : Type 0 where
@@ -104,12 +106,12 @@ module _ (n : ℕ) (topics : List ℕ) (width size : ℕ) where
     pub inspected : every isInspected (loopReplies k) ≡ true
     pub counts : loopAllowed n topics width size k ≡ min (passed (loopReplies k)) 18446744073709551615
     pub limits :
-        (t : List ℕ) → length t ≤ 32 → 0 < topicRate ruleMatches (readied n) t
-        → TopicLimits ruleMatches (readied n) t (topicRate ruleMatches (readied n) t) (loopReplies k)
+        (t : List ℕ) → length t ≤ 32 → 0 < topicRate (matcherOf (readied n)) (readied n) t
+        → TopicLimits (matcherOf (readied n)) (readied n) t (topicRate (matcherOf (readied n)) (readied n) t) (loopReplies k)
 
--- of any text and of any loop whose topics are lent whole
+-- of any text, which is read alike for either matcher, and of any loop whose topics are lent whole
 abbrev pub PrintedLimits : Type 0
-PrintedLimits = (s : List ℕ) → Printed s
+PrintedLimits = (matching : Matching) (s : List ℕ) → Printed matching s × SameRead s
 
 abbrev pub LoopLimits : Type 0
 LoopLimits = (n : ℕ) (topics : List ℕ) (width size k : ℕ) → width ≤ 128 → width ≤ length topics → Looped n topics width size k

@@ -5,7 +5,7 @@ use mathlib.Core.Path.{_≡_}
 use mathlib.Core.List.{List, [], _∷_, _++_}
 use Prim.Native.Nat.{ℕ}
 use Rattle.slices.specs.Bytes.{bytes}
-use Rattle.tables.specs.Rules.{ruleMatches}
+use Rattle.topics.specs.Matching.{portMatches}
 use Rattle.tables.specs.Identity.{idOf}
 use Rattle.monitor.specs.Runs.{Call, after}
 use Rattle.theorems.specs.Run.{allowedOf}
@@ -17,7 +17,7 @@ own t = publish (bytes "m/x") t
 
 -- how many of them are allowed in a run, after another run
 abbrev pub counted : List Call → List Call → ℕ
-counted before run = allowedOf ruleMatches (after ruleMatches (hub 1) before) (idOf (bytes "m/x")) run
+counted before run = allowedOf portMatches (after portMatches (hub 1) before) (idOf (bytes "m/x")) run
 
 -- the three
 pub record Slips : Type 0 where

@@ -6,7 +6,8 @@ use mathlib.Core.List.{List, [], _∷_, _++_}
 use Prim.Native.Nat.{ℕ, _+_, _-_, _*_, _/_}
 use Prim.Native.String.{String}
 use Rattle.slices.specs.Bytes.{bytes}
-use Rattle.tables.specs.Rules.{ruleMatches}
+use Rattle.topics.specs.Matching.{portMatches}
+use Rattle.topics.specs.declared.matching.Matching.the-variants.{Port}
 use Rattle.trace.specs.AsRun.{repliesOf}
 use Rattle.trace.specs.Trace.{loaded, messagesOf}
 use Rattle.theorems.specs.Printed.{passedOf, topicRate}
@@ -28,6 +29,6 @@ busyText =
     ++ sent "at=0" ++ sent "at=0" ++ sent "at=500000" ++ sent "at=1000000"
 
 pub record Witness : Type 0 where
-  pub in-order : InOrder (messagesOf busyText .sent)
-  pub rate : topicRate ruleMatches (loaded busyText .monitor) (bytes "m/a") ≡ 2
-  pub exactly : passedOf (bytes "m/a") (repliesOf busyText) ≡ 2 + 2 * (1000000 - 0) / 1000000
+  pub in-order : InOrder (messagesOf Port busyText .sent)
+  pub rate : topicRate portMatches (loaded Port busyText .monitor) (bytes "m/a") ≡ 2
+  pub exactly : passedOf (bytes "m/a") (repliesOf Port busyText) ≡ 2 + 2 * (1000000 - 0) / 1000000

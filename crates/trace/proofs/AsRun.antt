@@ -9,27 +9,28 @@ use lib.Dec.{eqb, leb}
 use lib.ListN.{length}
 use Rattle.laws.specs.Lists.{every}
 use Rattle.laws.proofs.Cases.{whichever}
-use Rattle.tables.specs.Rules.{ruleMatches}
+use Rattle.topics.specs.declared.matching.Matching.{Matching}
+use Rattle.topics.specs.declared.matching.Matching.the-variants.{Port}
 use Rattle.monitor.specs.Inspect.{applied, resultOf, doneWith}
 use Rattle.monitor.specs.Prepared.{Prepared, made, rule}
-use Rattle.monitor.specs.Runs.{Call, Exact, answer, after, replies, isInspected}
-use Rattle.monitor.specs.State.{wellFormed}
+use Rattle.monitor.specs.Runs.{Call, Exact, shipped, afterBy, repliesBy, isInspected}
+use Rattle.monitor.specs.State.{wellFormed, matcherOf}
 use Rattle.monitor.specs.declared.inspection.Inspected.{Inspected}
 use Rattle.monitor.specs.declared.state.MqttMonitor.{MqttMonitor}
 use Rattle.monitor.proofs.state.KeptFormed.{applied-formed}
 use Rattle.monitor.proofs.Prepared.{prepared-sound}
 use Rattle.monitor.proofs.Replies.{exact-done}
-use Rattle.trace.specs.AsRun.{recordsText, AsRun}
+use Rattle.trace.specs.AsRun.{recordsText, AsRun, SameRead}
 use Rattle.trace.specs.Groups.{messageAt}
 use Rattle.trace.specs.Record.{recordText, closingText}
 use Rattle.trace.specs.Trace.{Messages, loaded, messagesFrom, messagesOf, planned, textFrom, traceText}
 use Rattle.trace.proofs.groups.GroupLaws.{message-within}
-use Rattle.trace.proofs.run.LoadLaws.{loaded-holds}
+use Rattle.trace.proofs.run.LoadLaws.{loaded-holds, loaded-choice, loaded-alike, same-rules}
 use Rattle.trace.proofs.run.RunLaws.{sentAt}
 
 -- the loaded monitor is a fresh one with rules
-loaded-prepared : (s : List ℕ) → Prepared (loaded s .monitor)
-loaded-prepared s = loaded-holds Prepared made (λ m p action policy rate h. rule h p action policy rate) s
+loaded-prepared : (matching : Matching) (s : List ℕ) → Prepared (loaded matching s .monitor)
+loaded-prepared matching s = loaded-holds Prepared matching (made matching) (λ m p action policy rate h. rule h p action policy rate) s
 
 -- all calls of a list lend exactly what their messages use
 abbrev pub AllExact : List Call → Type 0
@@ -51,52 +52,63 @@ from-exact (suc k) s at line =
     tt)
 
 -- so do the messages of a trace
-messages-exact : (s : List ℕ) → AllExact (messagesOf s .sent)
+messages-exact : (matching : Matching) (s : List ℕ) → AllExact (messagesOf matching s .sent)
 unfolding messagesOf
-messages-exact s =
-    whichever (λ (x : Messages). AllExact (x .sent)) (eqb (loaded s .number) 0) (from-exact (length s + 1) s (loaded s .next) (loaded s .line)) tt
+messages-exact matching s =
+    let l = loaded matching s in whichever (λ (x : Messages). AllExact (x .sent)) (eqb (l .number) 0) (from-exact (length s + 1) s (l .next) (l .line)) tt
 
 module _ (m : MqttMonitor) (c : Call) (w : wellFormed m ≡ true) (e : Exact c) where
   -- `inspect` applies the plan
-  done : answer ruleMatches m c ≡ doneWith m (planned m c)
-  done = exact-done m c w e ruleMatches
+  done : shipped m c ≡ doneWith m (planned m c)
+  done = exact-done m c w e (matcherOf m)
 
   formed : wellFormed (applied m (planned m c)) ≡ true
-  formed = applied-formed ruleMatches m (c .msg) (c .topic) (c .payload) w
+  formed = applied-formed (matcherOf m) m (c .msg) (c .topic) (c .payload) w
 
 -- none of the calls is refused
-run-inspected : (cs : List Call) (m : MqttMonitor) → wellFormed m ≡ true → AllExact cs → every isInspected (replies ruleMatches m cs) ≡ true
-unfolding every replies
+run-inspected : (cs : List Call) (m : MqttMonitor) → wellFormed m ≡ true → AllExact cs → every isInspected (repliesBy shipped m cs) ≡ true
+unfolding every repliesBy
 run-inspected [] m w e = refl
 run-inspected (c ∷ cs) m w e = rw (done m c w (e .0)) (run-inspected cs (applied m (planned m c)) (formed m c w (e .0)) (e .1))
 
 -- what is printed of some messages from a state on
 run-text : (cs : List Call) (m : MqttMonitor) (n number line : ℕ) → wellFormed m ≡ true → AllExact cs
     → textFrom m n cs number line
-    ≡ recordsText n (replies ruleMatches m cs)
-    ++ closingText number line (after ruleMatches m cs .«total_inspected») (after ruleMatches m cs .«total_alerts»)
-unfolding textFrom recordsText replies after
+    ≡ recordsText n (repliesBy shipped m cs)
+    ++ closingText number line (afterBy shipped m cs .«total_inspected») (afterBy shipped m cs .«total_alerts»)
+unfolding textFrom recordsText repliesBy afterBy
 run-text [] m n number line w e = refl
 run-text (c ∷ cs) m n number line w e =
     let next : MqttMonitor = applied m (planned m c) in
     let r = run-text cs next (n + 1) number line (formed m c w (e .0)) (e .1) in
     let first : List ℕ = recordText n (resultOf (planned m c)) in
-    let others : List ℕ = recordsText (n + 1) (replies ruleMatches next cs) in
-    let last : List ℕ = closingText number line (after ruleMatches next cs .«total_inspected») (after ruleMatches next cs .«total_alerts») in
+    let others : List ℕ = recordsText (n + 1) (repliesBy shipped next cs) in
+    let last : List ℕ = closingText number line (afterBy shipped next cs .«total_inspected») (afterBy shipped next cs .«total_alerts») in
     ap (λ (t : List ℕ). first ++ t) r ∙ sym (append-assoc first others last)
     ∙ ap
     (λ (i : Inspected).
-    recordText n (i .result) ++ recordsText (n + 1) (replies ruleMatches (i .monitor) cs)
-    ++ closingText number line (after ruleMatches (i .monitor) cs .«total_inspected») (after ruleMatches (i .monitor) cs .«total_alerts»))
+    recordText n (i .result) ++ recordsText (n + 1) (repliesBy shipped (i .monitor) cs)
+    ++ closingText number line (afterBy shipped (i .monitor) cs .«total_inspected») (afterBy shipped (i .monitor) cs .«total_alerts»))
     (sym (done m c w (e .0)))
 
-pub as-run : (s : List ℕ) → AsRun s
+pub as-run : (matching : Matching) (s : List ℕ) → AsRun matching s
 unfolding traceText
-as-run s =
-    let p = loaded-prepared s in
+as-run matching s =
+    let p = loaded-prepared matching s in
     let w = prepared-sound p .formed in
+    let ms = messagesOf matching s in
     record {
       prepared = p;
-      inspected = run-inspected (messagesOf s .sent) (loaded s .monitor) w (messages-exact s);
-      text = run-text (messagesOf s .sent) (loaded s .monitor) 1 (messagesOf s .number) (messagesOf s .line) w (messages-exact s);
+      choice = loaded-choice matching s;
+      inspected = run-inspected (ms .sent) (loaded matching s .monitor) w (messages-exact matching s);
+      text = run-text (ms .sent) (loaded matching s .monitor) 1 (ms .number) (ms .line) w (messages-exact matching s);
     }
+
+-- the messages are read from the place after the rules, which is the same under any matcher
+same-messages : (matching : Matching) (s : List ℕ) → messagesOf matching s ≡ messagesOf Port s
+unfolding messagesOf
+same-messages matching s = rw (loaded-alike matching s)
+
+pub same-read : (s : List ℕ) → SameRead s
+same-read s =
+    record { rules = λ a b. sym (same-rules a s) ∙ same-rules b s; messages = λ a b. same-messages a s ∙ sym (same-messages b s) }

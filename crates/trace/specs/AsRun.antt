@@ -8,7 +8,6 @@ use mathlib.Core.List.{List, [], _∷_, _++_}
 use Prim.Native.Nat.{ℕ, _+_}
 use Rattle.laws.specs.Lists.{every}
 use Rattle.topics.specs.declared.matching.Matching.{Matching}
-use Rattle.topics.specs.declared.matching.Matching.the-variants.{Port, Standard}
 use Rattle.monitor.specs.Prepared.{Prepared}
 use Rattle.monitor.specs.Runs.{Reply, shipped, repliesBy, afterBy, isInspected}
 use Rattle.monitor.specs.declared.state.MqttMonitor.{MqttMonitor}
@@ -41,7 +40,7 @@ pub record AsRun (matching : Matching) (s : List ℕ) : Type 0 where
       ≡ recordsText 1 (repliesOf matching s)
       ++ closingText (messagesOf matching s .number) (messagesOf matching s .line) (lastOf matching s .«total_inspected») (lastOf matching s .«total_alerts»)
 
--- what is read does not depend on the matcher: the same default and rules, the same messages, and the same end with its line; or the same refusal
+-- What is read does not depend on the matcher: the same default and rules, the same messages, and the same end with its line; or the same refusal
 pub record SameRead (s : List ℕ) : Type 0 where
-  pub rules : rulesOf (loaded Standard s) ≡ rulesOf (loaded Port s)
-  pub messages : messagesOf Standard s ≡ messagesOf Port s
+  pub rules : (a b : Matching) → rulesOf (loaded a s) ≡ rulesOf (loaded b s)
+  pub messages : (a b : Matching) → messagesOf a s ≡ messagesOf b s

@@ -21,13 +21,13 @@ returns c =
     let s = given .text .now in
     let room = given .room in
     let t = both (leb 109 room) (leb (12 * length s) room) (sym (c .before .ample .ensures) ∙ c .if1 .taken) in
-    sym (le-leb (length (traceText s)) room (trace-within s room (leb-true _ _ (t .1)) (leb-true _ _ (t .0))))
+    sym (le-leb (length (traceText (given .matching) s)) room (trace-within (given .matching) s room (leb-true _ _ (t .1)) (leb-true _ _ (t .0))))
 
-trace-length-requires : tie.Need-trace-length-requires
-trace-length-requires c κs = search needs
+trace-length-by-requires : tie.Need-trace-length-by-requires
+trace-length-by-requires c κs = search needs
 
 returns-2 : tie.Need-returns-2
-returns-2 c = ap (λ (e : TraceEnd). leb (e .length) (c .before .before .before .before .before .args .room)) (c .before .trace-length .ensures)
+returns-2 c = ap (λ (e : TraceEnd). leb (e .length) (c .before .before .before .before .before .args .room)) (c .before .trace-length-by .ensures)
 
 pub fits-spec : {M : Type 1} → statement M
-fits-spec = tie.close (tie.spec ample-requires returns trace-length-requires returns-2)
+fits-spec = tie.close (tie.spec ample-requires returns trace-length-by-requires returns-2)

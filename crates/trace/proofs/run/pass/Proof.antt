@@ -9,7 +9,7 @@ use lib.ListN.{length, take}
 use lib.Seq.{length-take-le}
 use borrow.Author.Needs.{needs}
 use Rattle.monitor.specs.Inspect.{storedAt, applied}
-use Rattle.monitor.specs.State.{matcherOf, withCounters}
+use Rattle.monitor.specs.State.{withCounters}
 use Rattle.monitor.proofs.plan.PlanLaws.{composed}
 use Rattle.monitor.proofs.inspection.ApplyLaws.{stored-yes, stored-no, withClients, withBuckets, withTrackers, stored-all}
 use Rattle.trace.specs.Groups.{topicIn, payloadIn}
@@ -276,7 +276,7 @@ plan-is c =
     let seen = id .before in
     let message = message-of c in
     plan-sent _ _ _ (at-read message .read-message .ensures .0) (topic-has message .0) (payload-has message .0)
-    (composed ruleMatches _ _ _ _ (at-gate fed .gate-for .ensures) (seen .seen-for .ensures) (id .id-for .ensures) (spent .spent-for .ensures)
+    (composed _ _ _ _ _ (at-gate fed .gate-for .ensures) (seen .seen-for .ensures) (id .id-for .ensures) (spent .spent-for .ensures)
     (fed .fed-for .ensures) (c .plan-from .ensures))
 
 -- the state after each store, where the ways from its test meet

@@ -1,4 +1,4 @@
--- `trace::run::run_trace` meets its contract: 28 leaves the buffer as it was; else one pass writes all. Assumes nothing.
+-- `trace::run::run_trace_by` meets its contract: 28 leaves the buffer as it was; else one pass writes all. Assumes nothing.
 use mathlib.Core.Bool.{true, false}
 use mathlib.Core.Path.{_≡_, sym, _∙_}
 use lib.Dec.{leb}
@@ -6,8 +6,8 @@ use lib.ListN.{length}
 use borrow.Author.Tests.{not-true, not-false, leb-true}
 use Rattle.trace.specs.Trace.{traceText, traceEnd, traceKept}
 use borrow.Author.Needs.{needs}
-use Rattle.trace.proofs.run.run_trace.Statement.{statement}
-use Rattle.trace.proofs.run.run_trace.Tie as tie
+use Rattle.trace.proofs.run.run_trace_by.Statement.{statement}
+use Rattle.trace.proofs.run.run_trace_by.Tie as tie
 
 fits-requires : tie.Need-fits-requires
 fits-requires c κs = search needs
@@ -16,7 +16,7 @@ returns : tie.Need-returns
 unfolding traceEnd traceKept
 returns c =
     let start = c .before .before .before .before in
-    let e : leb (length (traceText (start .args .text .now))) (length (start .args .out .now)) ≡ false = sym (c .before .fits2 .ensures) ∙ not-true _ (c .if1 .taken) in
+    let e : leb (length (traceText (start .args .matching) (start .args .text .now))) (length (start .args .out .now)) ≡ false = sym (c .before .fits2 .ensures) ∙ not-true _ (c .if1 .taken) in
     (rw (e), rw (e))
 
 pass-requires : tie.Need-pass-requires
@@ -32,8 +32,8 @@ returns-2 c =
     let room = passed .before .before in
     let fitted = room .before in
     let start = fitted .before .before .before in
-    let e : leb (length (traceText (start .args .text .now))) (length (start .args .out .now)) ≡ true = sym (fitted .fits2 .ensures) ∙ not-false _ (room .if1 .left) in
+    let e : leb (length (traceText (start .args .matching) (start .args .text .now))) (length (start .args .out .now)) ≡ true = sym (fitted .fits2 .ensures) ∙ not-false _ (room .if1 .left) in
     (rw (e) (passed .pass .ensures .0), rw (e) (passed .pass .ensures .1))
 
-pub run-trace-spec : {M : Type 1} → statement M
-run-trace-spec = tie.close (tie.spec fits-requires returns pass-requires same-length returns-2)
+pub run-trace-by-spec : {M : Type 1} → statement M
+run-trace-by-spec = tie.close (tie.spec fits-requires returns pass-requires same-length returns-2)
