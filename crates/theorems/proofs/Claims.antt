@@ -2,6 +2,7 @@
 use Rattle.topics.proofs.matching.Difference.{port-differs}
 use Rattle.topics.proofs.matching.Meaning.{meaning}
 use Rattle.lines.proofs.Round.{round}
+use Rattle.monitor.proofs.Chosen.{chosen}
 use Rattle.monitor.proofs.Denied.{denied-by-kind}
 use Rattle.monitor.proofs.Four.{four-at-most, none-dropped}
 use Rattle.monitor.proofs.Reached.{sound-always}
@@ -12,6 +13,7 @@ use Rattle.theorems.proofs.Corners.{corners}
 use Rattle.theorems.proofs.Loop.{loop-limits}
 use Rattle.theorems.proofs.Lower.{lower-first, lower-later}
 use Rattle.theorems.proofs.Printed.{printed-limits}
+use Rattle.theorems.proofs.Shipped.{shipped-meets}
 use Rattle.theorems.proofs.ShutOut.{shut-out}
 use Rattle.theorems.proofs.Slips.{slips}
 use Rattle.theorems.proofs.Tight.{tight}
@@ -24,11 +26,13 @@ claims =
       upper = upper;
       lower-first = lower-first;
       lower-later = lower-later;
+      shipped = shipped-meets;
       met = tight;
       slips = slips;
       printed = printed-limits;
       printed-met = witness;
       looped = loop-limits;
+      chosen = chosen;
       sound = sound-always;
       unbroken = unbroken-always;
       denied = denied-by-kind;

@@ -17,6 +17,7 @@ mod Lower
 mod Printed
 mod Reach
 mod Seats
+mod Shipped
 mod ShutOut
 mod Slips
 mod Tight

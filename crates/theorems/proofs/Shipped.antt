@@ -1,26 +1,44 @@
 -- Demand 3 of the shipped `inspect`: its runs are those under the matcher of the state that they began with (`one-matcher`), and under any matcher demand 3 holds. Assumes nothing.
-use mathlib.Core.Path.{_≡_, refl, ap, sym, _∙_}
-use mathlib.Core.Bool.{Bool}
+use mathlib.Core.Path.{_≡_, refl, ap, _∙_}
 use mathlib.Core.List.{List, [], _∷_, _++_}
-use Prim.Native.Nat.{ℕ}
+use Rattle.topics.specs.Matching.{matchesBy}
+use Rattle.topics.specs.declared.matching.Matching.{Matching}
 use Rattle.tables.specs.declared.identity.Id.{Id}
-use Rattle.monitor.specs.Runs.{Call, shipped, answer, afterBy, after}
+use Rattle.monitor.specs.Chosen.{Keeps}
+use Rattle.monitor.specs.Runs.{Call, answer, shipped, afterBy, after}
 use Rattle.monitor.specs.State.{matcherOf}
 use Rattle.monitor.specs.declared.state.MqttMonitor.{MqttMonitor}
-use Rattle.monitor.proofs.Chosen.{one-matcher, same-matcher}
-use Rattle.theorems.specs.Run.{Matcher, isAllowed, reaches, allowedOf}
-use Rattle.theorems.specs.Shipped.{passes, passedBy, ShippedLimits}
+use Rattle.monitor.proofs.Chosen.{one-matcher, inspect-keeps}
+use Rattle.theorems.specs.Run.{reaches, allowedOf}
+use Rattle.theorems.specs.Shipped.{passedBy, ShippedLimits}
 use Rattle.theorems.proofs.Lower.{lower-first, lower-later}
 use Rattle.theorems.proofs.Turns.{Like, rate-like, formed-there, on, on-run, begin}
 use Rattle.theorems.proofs.Upper.{upper}
 
--- a verdict after a run
-there : (p : MqttMonitor) (cs : List Call) (z : Call) → passes shipped (afterBy shipped p cs) z ≡ isAllowed (matcherOf p) (after (matcherOf p) p cs) z
-there p cs z =
-    let e = one-matcher p cs .left in
-    ap (λ (m : MqttMonitor). passes shipped m z) e
-    ∙ ap (λ (matcher : Matcher). isAllowed matcher (after (matcherOf p) p cs) z) (sym (ap matcherOf e) ∙ same-after p cs)
+-- the state after a run chose what the first did
+still : (p : MqttMonitor) (cs : List Call) → Keeps p (after (matcherOf p) p cs)
+still p cs = rw (one-matcher p cs .left) at (one-matcher p cs .choice)
+
+-- what is counted of a run is what specs/Run.antt counts
+passed-alike : {p m : MqttMonitor} → Like p m → Keeps p m → (x : Id) (cs : List Call) → passedBy shipped p m x cs ≡ allowedOf (matcherOf p) m x cs
+unfolding passedBy allowedOf reaches
+passed-alike k e x [] = refl
+passed-alike {p} {m} k e x (c ∷ cs) =
+    let a : shipped m c ≡ answer (matcherOf p) m c = ap (λ (matching : Matching). answer (matchesBy matching) m c) e in
+    rw (a, rate-like (matcherOf p) k c, passed-alike (on (matcherOf p) k c) (inspect-keeps (matcherOf p) m c ∙ e) x cs)
 
 pub shipped-meets : ShippedLimits
 shipped-meets =
-    record { upper = ?; lower-first = ?; lower-later = ? }
+    record {
+      upper =
+          λ p q x R before between a z o r ra rz.
+          let k : Like p (after (matcherOf p) p before) = on-run (matcherOf p) (begin q (formed-there (matcherOf p) p x a ra)) before in
+          rw (one-matcher p before .left, passed-alike k (still p before) x (a ∷ between ++ z ∷ []))
+          (upper (matcherOf p) p q x R before between a z o r ra rz);
+      lower-first =
+          λ p q x before z o h s rz. rw (one-matcher p before .left, still p before) (lower-first (matcherOf p) p q x before z o h s rz);
+      lower-later =
+          λ p q x R before between y z o h r ry s rz g.
+          let cs : List Call = before ++ y ∷ between in
+          rw (one-matcher p cs .left, still p cs) (lower-later (matcherOf p) p q x R before between y z o h r ry s rz g);
+    }

@@ -12,6 +12,7 @@ use Rattle.topics.specs.Hashes.{fnv1a, djb2, suffixHash}
 use Rattle.topics.specs.Levels.{firstLevel, restLevels}
 use Rattle.topics.specs.Matching.{matchLevels, fromSlash, takesNone, takesEnd, matchBytes, standardRule, portMatches, standardMatches}
 use Rattle.topics.specs.Patterns.{wellPlaced, patternRefusal}
+use Rattle.topics.specs.declared.matching.Matching.{Matching}
 use Rattle.topics.specs.declared.matching.StandardMatch.{StandardMatch}
 use Rattle.topics.specs.declared.matching.StandardMatch.the-variants.{Yes, No, OutsideDomain}
 use Rattle.lines.specs.Decimal.{decimal, decimalIn}
@@ -24,7 +25,6 @@ use Rattle.tables.specs.Buckets.{refilled, spend, isExpired, holdsBucket, newco
 use Rattle.tables.specs.Identity.{prefixOf, idOf, isOf}
 use Rattle.tables.specs.Rules.{qosOk, ruleFine, equalRule, firstRule, covered, shadowedAfter, rulePlan}
 use Rattle.tables.specs.Scan.{find, leastOf}
-use Rattle.tables.specs.declared.identity.Id.{Id}
 use Rattle.tables.specs.declared.rules.QosPolicy.the-variants.{Any}
 use Rattle.tables.specs.declared.rules.TopicAction.the-variants.{Allow}
 use Rattle.monitor.specs.Alerts.{severityOf, hashOf, kindsOf, raise, raiseAll}
@@ -32,8 +32,8 @@ use Rattle.monitor.specs.Calls.{fresh, addRule, validateRules}
 use Rattle.monitor.specs.Gate.{rulingOf, gateAfter, gateOf}
 use Rattle.monitor.specs.Inspect.{applied, inspectRefusal, inspectWith}
 use Rattle.monitor.specs.Plan.{seenOf, spentOf, fedOf, denialOf, planFrom, planOf}
-use Rattle.monitor.specs.Runs.{Call, answer, after}
-use Rattle.monitor.specs.State.{wellFormed}
+use Rattle.monitor.specs.Runs.{Call, Monitor, shipped, afterBy}
+use Rattle.monitor.specs.State.{wellFormed, matcherOf}
 use Rattle.monitor.specs.declared.inspection.Inspected.{Inspected}
 use Rattle.monitor.specs.declared.state.MqttMonitor.{MqttMonitor}
 use Rattle.monitor.specs.declared.state.Outcome.{Outcome}
@@ -42,13 +42,11 @@ use Rattle.trace.specs.Groups.{openingOf, opening1, opening2}
 use Rattle.trace.specs.Record.{closingText}
 use Rattle.trace.specs.Trace.{loadedFrom, loaded, messagesOf, textFrom, traceText, traceEnd}
 use Rattle.trace.specs.declared.run.TraceEnd.{TraceEnd}
-use Rattle.theorems.specs.Run.{Matcher, InOrder, single, later, OneRate, done, next, firstRate, rateOf, reaches, allowedOf, isAmong, arrived}
-use Rattle.theorems.specs.ShutOut.{Monitor, passes, afterBy, passedBy, UpperBy, LowerBy, LaterBy, Meets, ShutOut}
+use Rattle.theorems.specs.Run.{Matcher, InOrder, single, later, OneRate, done, next, firstRate, rateOf, reaches, isAmong, arrived}
+use Rattle.theorems.specs.Shipped.{passes, passedBy, UpperBy, LowerBy, LaterBy}
+use Rattle.theorems.specs.ShutOut.{Meets, ShutOut}
 use Rattle.theorems.specs.Tight.{hub, publish}
-use Rattle.theorems.proofs.Lower.{lower-first, lower-later}
 use Rattle.theorems.proofs.Tight.{hub-prepared}
-use Rattle.theorems.proofs.Turns.{Like, rate-like, formed-there, on, on-run, begin}
-use Rattle.theorems.proofs.Upper.{upper}
 
 -- a message of the one topic, at 0
 abbrev message : Call
@@ -60,16 +58,16 @@ soon = publish (bytes "m/a") 500000
 
 -- what a monitor with one rule, at rate 2, does with it
 record Facts : Type 0 where
-  reached : reaches portMatches (hub 2) (idOf (bytes "m/a")) message ≡ true
-  one-rate : OneRate portMatches (hub 2) (idOf (bytes "m/a")) 2 (message ∷ message ∷ message ∷ [])
-  few : length (arrived portMatches (hub 2) [] (message ∷ [])) ≤ 32
-  reached-soon : reaches portMatches (hub 2) (idOf (bytes "m/a")) soon ≡ true
-  one-rate-soon : OneRate portMatches (hub 2) (idOf (bytes "m/a")) 2 (message ∷ soon ∷ [])
-  few-soon : length (arrived portMatches (hub 2) [] (message ∷ soon ∷ [])) ≤ 32
+  reached : reaches (matcherOf (hub 2)) (hub 2) (idOf (bytes "m/a")) message ≡ true
+  one-rate : OneRate (matcherOf (hub 2)) (hub 2) (idOf (bytes "m/a")) 2 (message ∷ message ∷ message ∷ [])
+  few : length (arrived (matcherOf (hub 2)) (hub 2) [] (message ∷ [])) ≤ 32
+  reached-soon : reaches (matcherOf (hub 2)) (hub 2) (idOf (bytes "m/a")) soon ≡ true
+  one-rate-soon : OneRate (matcherOf (hub 2)) (hub 2) (idOf (bytes "m/a")) 2 (message ∷ soon ∷ [])
+  few-soon : length (arrived (matcherOf (hub 2)) (hub 2) [] (message ∷ soon ∷ [])) ≤ 32
   none : hub 2 .«total_inspected» ≡ 0
-  first : answer portMatches (hub 2) message .monitor .«total_inspected» ≡ 1
-  second : answer portMatches (answer portMatches (hub 2) message .monitor) message .monitor .«total_inspected» ≡ 2
-  quiet : answer portMatches (hub 2) message .result .«alert_count» ≡ 0
+  first : shipped (hub 2) message .monitor .«total_inspected» ≡ 1
+  second : shipped (shipped (hub 2) message .monitor) message .monitor .«total_inspected» ≡ 2
+  quiet : shipped (hub 2) message .result .«alert_count» ≡ 0
 
 facts : Facts
 unfolding matchBytes fromSlash takesNone takesEnd firstLevel restLevels same has wellPlaced countOf patternRefusal fnv1a djb2 suffixHash prefixOf idOf
@@ -89,27 +87,6 @@ facts =
       second = refl;
       quiet = refl;
     }
-
--- our own runs and counts are those of specs/Run.antt
-after-ours : (m : MqttMonitor) (cs : List Call) → afterBy (answer portMatches) m cs ≡ after portMatches m cs
-unfolding afterBy afterBy
-after-ours m [] = refl
-after-ours m (c ∷ cs) = after-ours (answer portMatches m c .monitor) cs
-
-passed-ours : {p m : MqttMonitor} → Like p m → (x : Id) (cs : List Call) → passedBy (answer portMatches) p m x cs ≡ allowedOf portMatches m x cs
-unfolding passedBy allowedOf reaches
-passed-ours k x [] = refl
-passed-ours k x (c ∷ cs) = rw (rate-like portMatches k c, passed-ours (on portMatches k c) x cs)
-
-ours : UpperBy (answer portMatches) × LowerBy (answer portMatches) × LaterBy (answer portMatches)
-ours = (
-  λ p q x R before between a z o r ra rz.
-      let k : Like p (after portMatches p before) = on-run portMatches (begin q (formed-there portMatches p x a ra)) before in
-      rw (after-ours p before, passed-ours k x (a ∷ between ++ z ∷ [])) (upper portMatches p q x R before between a z o r ra rz),
-  λ p q x before z o h s rz. rw (after-ours p before) (lower-first portMatches p q x before z o h s rz),
-  λ p q x R before between y z o h r ry s rz g.
-      rw (after-ours p (before ++ y ∷ between)) (lower-later portMatches p q x R before between y z o h r ry s rz g),
-)
 
 denies-everything : (f : Monitor) → LowerBy f → ¬ ((m : MqttMonitor) (c : Call) → passes f m c ≡ false)
 denies-everything f low all =
@@ -153,14 +130,14 @@ moved m n e = ap (λ (s : MqttMonitor). s .«total_inspected») e
 
 never-moves : (f : Monitor) → Meets f → ¬ ((m : MqttMonitor) (c : Call) → f m c .monitor ≡ m)
 never-moves f meets h =
-    let e : answer portMatches (hub 2) message .monitor ≡ hub 2 = sym (ap (λ (r : Inspected). r .monitor) (meets (hub 2) message)) ∙ h (hub 2) message in
+    let e : shipped (hub 2) message .monitor ≡ hub 2 = sym (ap (λ (r : Inspected). r .monitor) (meets (hub 2) message)) ∙ h (hub 2) message in
     omega (arith, facts .none, facts .first, moved _ _ e)
 
 first-only : (f : Monitor) → Meets f → ¬ ((m : MqttMonitor) (c d : Call) → f (f m c .monitor) d .monitor ≡ f m c .monitor)
 first-only f meets h =
     let s : MqttMonitor = f (hub 2) message .monitor in
-    let e : answer portMatches s message .monitor ≡ s = sym (ap (λ (r : Inspected). r .monitor) (meets s message)) ∙ h (hub 2) message message in
-    let g : s ≡ answer portMatches (hub 2) message .monitor = ap (λ (r : Inspected). r .monitor) (meets (hub 2) message) in
+    let e : shipped s message .monitor ≡ s = sym (ap (λ (r : Inspected). r .monitor) (meets s message)) ∙ h (hub 2) message message in
+    let g : s ≡ shipped (hub 2) message .monitor = ap (λ (r : Inspected). r .monitor) (meets (hub 2) message) in
     omega (arith, facts .first, facts .second, moved _ _ (rw g at e))
 
 -- the standard matcher's yes
@@ -193,7 +170,7 @@ one-reply-standard g meets b h =
 
 invented-alert : (f : Monitor) → Meets f → ¬ ((m : MqttMonitor) (c : Call) → 0 < f m c .result .«alert_count»)
 invented-alert f meets h =
-    let e : f (hub 2) message .result .«alert_count» ≡ answer portMatches (hub 2) message .result .«alert_count» =
+    let e : f (hub 2) message .result .«alert_count» ≡ shipped (hub 2) message .result .«alert_count» =
     ap (λ (r : Inspected). r .result .«alert_count») (meets (hub 2) message) in
     omega (arith, h (hub 2) message, e, facts .quiet)
 
@@ -220,21 +197,21 @@ invented-shadow v meets n h =
     omega arith
 
 -- an empty trace is refused at its first line, and one with that line alone at its second
-lines-read : (traceEnd 200 [] .line ≡ 1) × (traceEnd 200 (bytes "default=allow" ++ 10 ∷ []) .line ≡ 2)
+lines-read : (matching : Matching) → (traceEnd matching 200 [] .line ≡ 1) × (traceEnd matching 200 (bytes "default=allow" ++ 10 ∷ []) .line ≡ 2)
 unfolding fresh spanOf findByte toByte firstWord restWords begins same wordOf wordIndex keyed lineAt answered wordField numberField decimal decimalIn
     numberLine openingOf opening1 opening2 closingText loadedFrom loaded messagesOf textFrom traceText traceEnd
-lines-read = (refl, refl)
+lines-read matching = (refl, refl)
 
-invented-line : (g : ℕ → List ℕ → TraceEnd) → ((room : ℕ) (text : List ℕ) → g room text ≡ traceEnd room text) → (n : ℕ)
+invented-line : (matching : Matching) (g : ℕ → List ℕ → TraceEnd) → ((room : ℕ) (text : List ℕ) → g room text ≡ traceEnd matching room text) → (n : ℕ)
     → ¬ ((room : ℕ) (text : List ℕ) → g room text .line ≡ n)
-invented-line g meets n h =
-    let at : (text : List ℕ) → traceEnd 200 text .line ≡ n = λ text. sym (ap (λ (e : TraceEnd). e .line) (meets 200 text)) ∙ h 200 text in
-    omega (arith, lines-read .0, lines-read .1, at [], at (bytes "default=allow" ++ 10 ∷ []))
+invented-line matching g meets n h =
+    let at : (text : List ℕ) → traceEnd matching 200 text .line ≡ n = λ text. sym (ap (λ (e : TraceEnd). e .line) (meets 200 text)) ∙ h 200 text in
+    let read = lines-read matching in
+    omega (arith, read .0, read .1, at [], at (bytes "default=allow" ++ 10 ∷ []))
 
 pub shut-out : ShutOut
 shut-out =
     record {
-      ours = ours;
       denies-everything = denies-everything;
       denies-later = denies-later;
       allows-everything = allows-everything;

@@ -4,11 +4,13 @@
 -- Assumes nothing.
 use Rattle.topics.specs.Meaning.{Meaning, Difference}
 use Rattle.lines.specs.Round.{Round}
+use Rattle.monitor.specs.Chosen.{Chosen}
 use Rattle.monitor.specs.Reached.{SoundAlways, UnbrokenAlways}
 use Rattle.monitor.specs.Told.{DeniedByKind, AtMostFour, NoneDropped, TotalIsSum}
 use Rattle.theorems.specs.Corners.{Corners}
 use Rattle.theorems.specs.Limits.{Upper, LowerFirst, LowerLater}
 use Rattle.theorems.specs.Printed.{PrintedLimits, LoopLimits}
+use Rattle.theorems.specs.Shipped.{ShippedLimits}
 use Rattle.theorems.specs.ShutOut.{ShutOut}
 use Rattle.theorems.specs.Slips.{Slips}
 use Rattle.theorems.specs.Tight.{Met, MetLater, Night}
@@ -22,16 +24,21 @@ pub record Claims : Type 0 where
   pub lower-first : LowerFirst
   -- and a later one is denied only if R x (the time since the one before it) is below 1,000,000
   pub lower-later : LowerLater
+  -- all of it of the shipped `inspect`, in monitors of either matcher, over their own runs
+  pub shipped : ShippedLimits
   -- these bounds are met: four messages where the bound is four; a later message at the very microsecond; the night that started this
   pub met : Met × MetLater × Night
   -- three slips of a limiter break the upper half
   pub slips : Slips
-  -- WHAT IS PRINTED is what `inspect` answers, message by message, for every text; and demand 3 holds of it, for each topic of at most 32 bytes
+  -- WHAT IS PRINTED is what `inspect` answers, message by message, for every text and either matcher, and what is read is the same for both; and demand 3 holds of it, for each topic
+  -- of at most 32 bytes
   pub printed : PrintedLimits
   -- a trace that prints `allowed=1` exactly as often as that lets it
   pub printed-met : Witness
   -- so too of the loop that `bin/measure loop` runs
   pub looped : LoopLimits
+  -- A MONITOR'S MATCHER is the one that its constructor chose: every call keeps it, runs take it throughout, and by it the rules are chosen level by level
+  pub chosen : Chosen
   -- ONE INSPECTION AND MANY. Every state that calls hand out is sound, so number 10 is never met in one
   pub sound : SoundAlways
   -- and, without a load, of the monitor's own making: identities made of topics, rings that CONNECTs filled
@@ -46,7 +53,7 @@ pub record Claims : Type 0 where
   pub total : TotalIsSum
   -- MATCHING. On a pattern whose wildcards are well placed the byte matcher is document 01's definition, level by level, with either of its two flags
   pub meaning : Meaning
-  -- and it differs from the standard's rule exactly at a `+` on an empty last level
+  -- and the port differs from the standard, section 4.7.2 included, exactly at a `+` on an empty last level and at a dollar name under a leading wildcard
   pub difference : Difference
   -- TEXT. What is written is read back, and what is read was written so
   pub round : Round

@@ -4,6 +4,7 @@ pub mod Limits
 pub mod One
 pub mod Printed
 pub mod Run
+pub mod Shipped
 pub mod ShutOut
 pub mod Slips
 pub mod Tight

@@ -141,6 +141,11 @@ module _ (matching : Matching) (s : List ℕ) {l : LoadedRules} (port : l ≡ ru
   monitor-is : withRules m (l .rules) (l .«rule_count») ≡ loaded matching s .monitor
   monitor-is = rw (f, e) (loaded-monitor matching s)
 
+  -- it has the matcher that was asked for
+  choice : m .matching ≡ matching
+  unfolding fresh
+  choice = ap (λ (x : MqttMonitor). x .matching) f
+
   number-is : loaded matching s .number ≡ l .number
   number-is = ap (λ (x : LoadedRules). x .number) (sym e)
 
@@ -151,12 +156,12 @@ module _ (matching : Matching) (s : List ℕ) {l : LoadedRules} (port : l ≡ ru
   next-is = ap (λ (x : LoadedRules). x .next) (sym e)
 
   -- the messages are taken from the place after the rules
-  pub going-start : (write : Bool) (d : List ℕ) → l .number ≡ 0 → Going matching s write d d (withRules m (l .rules) (l .«rule_count»)) 1 (l .next) (l .line) 0
+  pub going-start : (write : Bool) (d : List ℕ) → l .number ≡ 0 → Going (m .matching) s write d d (withRules m (l .rules) (l .«rule_count»)) 1 (l .next) (l .line) 0
   unfolding traceText
   going-start write d z =
       let y : loaded matching s .number ≡ 0 = number-is ∙ z in
       let t = loaded-messages matching s y in
-      rw (monitor-is, ← next-is, ← line-is)
+      rw (monitor-is, choice, ← next-is, ← line-is)
       (record {
         short = loaded-short matching s y;
         lines = omega (arith, loaded-few matching s .line);

@@ -1,5 +1,6 @@
 -- `trace::run::pass` meets its contract. The invariant: what the messages left print, from the place in the buffer on, completes what the whole trace prints
--- (RunLaws, `Going`), and the two buffers keep their lengths; the measure: the bytes of the text that are left. Assumes nothing.
+-- (RunLaws, `Going`), and the two buffers keep their lengths; the measure: the bytes of the text that are left. The loop knows the matcher from the monitor that it
+-- began with. Assumes nothing.
 use Prim.Native.Nat.{ℕ, _+_, _-_, _≤_}
 use mathlib.Core.List.{List}
 use mathlib.Core.Logic.{⊎-elim}
@@ -8,8 +9,10 @@ use native.Mathlib.Omega.{arith}
 use lib.ListN.{length, take}
 use lib.Seq.{length-take-le}
 use borrow.Author.Needs.{needs}
+use Rattle.monitor.specs.Calls.{fresh}
 use Rattle.monitor.specs.Inspect.{storedAt, applied}
-use Rattle.monitor.specs.State.{withCounters}
+use Rattle.monitor.specs.State.{matcherOf, withCounters}
+use Rattle.monitor.specs.declared.state.MqttMonitor.{MqttMonitor}
 use Rattle.monitor.proofs.plan.PlanLaws.{composed}
 use Rattle.monitor.proofs.inspection.ApplyLaws.{stored-yes, stored-no, withClients, withBuckets, withTrackers, stored-all}
 use Rattle.trace.specs.Groups.{topicIn, payloadIn}
@@ -23,11 +26,11 @@ use Rattle.trace.proofs.run.pass.Statement.{statement}
 use Rattle.trace.proofs.run.pass.Tie as tie
 
 abbrev Inv-loop : tie.InvT-loop
-Inv-loop text matching out₀ write m₀ at₀ line₀ topic₀ payload₀ n₀ p₀ out m at line topic payload n p =
-    Going matching text write out₀ out m n at line p × (length topic ≡ 128) × (length payload ≡ 256)
+Inv-loop text out₀ write m₀ at₀ line₀ topic₀ payload₀ n₀ p₀ out m at line topic payload n p =
+    Going (m₀ .matching) text write out₀ out m n at line p × (length topic ≡ 128) × (length payload ≡ 256)
 
 abbrev μ-loop : tie.MeasureT-loop
-μ-loop text matching out₀ write m₀ at₀ line₀ topic₀ payload₀ n₀ p₀ out m at line topic payload n p = length text - at
+μ-loop text out₀ write m₀ at₀ line₀ topic₀ payload₀ n₀ p₀ out m at line topic payload n p = length text - at
 
 -- The places of a pass: `at-` leads back to one from the next that has a name, `-of` from further on, or from where the pass ends early.
 -- Before the loop: the start, the rules are loaded, the monitor is made
@@ -140,6 +143,17 @@ loop-holds c =
     let fresh = good .before .before in
     (going-start _ _ (at-load fresh .load .ensures) (fresh .fresh .ensures) _ _ (good .if1 .left), c .before .buffer-128 .ensures, c .buffer-256 .ensures)
 
+-- the matcher that the monitor has is the one that was asked for
+chose : (c : tie.At-loop Inv-loop μ-loop) → at-fresh c .fresh .result .matching ≡ start-of c .args .matching
+unfolding fresh
+chose c = ap (λ (m : MqttMonitor). m .matching) (at-fresh c .fresh .ensures)
+
+going : (c : tie.At-loop Inv-loop μ-loop)
+    → let a = start-of c .args in
+    let l = c .loop in
+    Going (a .matching) (a .text .now) (a .write) (a .out .now) (l .out) (l .m) (l .n) (l .at) (l .line) (l .p)
+going c = rw (chose c) at (c .loop .inv .0)
+
 read-message-requires : tie.Need-read-message-requires Inv-loop μ-loop
 read-message-requires c κs = search needs
 
@@ -147,7 +161,7 @@ read-message-requires c κs = search needs
 numbers-small : (c : tie.After-read-message Inv-loop μ-loop) → (at-loop c .loop .line ≤ 65666) × (at-loop c .loop .n ≤ 65536) × (group c .line ≤ 6)
 numbers-small c =
     let test = at-test c in
-    let going = at-loop c .loop .inv .0 in (
+    let going = going (at-loop c) in (
       omega (arith, going .lines, going .short, test .loop-test .taken),
       omega (arith, going .ordinal, going .short, test .loop-test .taken),
       c .read-message .ensures .1 .0 .line,
@@ -175,21 +189,21 @@ pass-closing-requires-2 : tie.Need-pass-closing-requires-2 Inv-loop μ-loop
 pass-closing-requires-2 c κs =
     let stop = c .before .before in
     let loop = at-loop (read-of stop) in
-    (going-small (loop .loop .inv .0), close-room (loop .loop .inv .0) (start-of loop .pre) (refused stop))
+    (going-small (going loop), close-room (going loop) (start-of loop .pre) (refused stop))
 
 same-length-2 : tie.Need-same-length-2 Inv-loop μ-loop
 same-length-2 c =
     let closed = c .before .before in
     let loop = at-loop (read-of (closed .before .before .before)) in
-    closed .pass-closing2 .kept .0 ∙ loop .loop .inv .0 .long
+    closed .pass-closing2 .kept .0 ∙ going loop .long
 
 returns-2 : tie.Need-returns-2 Inv-loop μ-loop
 returns-2 c =
     let closed = c .before .before in
     let stop = closed .before .before .before in
     let loop = at-loop (read-of stop) in (
-      close-end (loop .loop .inv .0) (start-of loop .pre) (refused stop) (closed .pass-closing2 .ensures .0),
-      close-bytes (loop .loop .inv .0) (start-of loop .pre) (refused stop) (closed .pass-closing2 .ensures .1),
+      close-end (going loop) (start-of loop .pre) (refused stop) (closed .pass-closing2 .ensures .0),
+      close-bytes (going loop) (start-of loop .pre) (refused stop) (closed .pass-closing2 .ensures .1),
     )
 
 cast-topic-len : tie.Need-cast-topic-len Inv-loop μ-loop
@@ -275,8 +289,9 @@ plan-is c =
     let id = spent .before .before in
     let seen = id .before in
     let message = message-of c in
-    plan-sent _ _ _ (at-read message .read-message .ensures .0) (topic-has message .0) (payload-has message .0)
-    (composed _ _ _ _ _ (at-gate fed .gate-for .ensures) (seen .seen-for .ensures) (id .id-for .ensures) (spent .spent-for .ensures)
+    let m = loop-of c .loop .m in
+    plan-sent _ _ m (at-read message .read-message .ensures .0) (topic-has message .0) (payload-has message .0)
+    (composed (matcherOf m) m _ _ _ (at-gate fed .gate-for .ensures) (seen .seen-for .ensures) (id .id-for .ensures) (spent .spent-for .ensures)
     (fed .fed-for .ensures) (c .plan-from .ensures))
 
 -- the state after each store, where the ways from its test meet
@@ -326,8 +341,8 @@ pass-record-requires c κs =
     let message = message-of plan in
     let read = at-read message in
     let loop = at-loop read in (
-      going-small (loop .loop .inv .0),
-      turn-room (loop .loop .inv .0) (start-of loop .pre) (at-test read .loop-test .taken) (read .read-message .ensures .0) (message .if2 .left) (plan-is plan),
+      going-small (going loop),
+      turn-room (going loop) (start-of loop .pre) (at-test read .loop-test .taken) (read .read-message .ensures .0) (message .if2 .left) (plan-is plan),
     )
 
 add-line : tie.Need-add-line Inv-loop μ-loop
@@ -350,8 +365,8 @@ loop-again c =
     let message = message-of plan in
     let read = at-read message in
     let loop = at-loop read in (
-      going-turn (loop .loop .inv .0) (start-of loop .pre) (at-test read .loop-test .taken) (read .read-message .ensures .0) (message .if2 .left) (plan-is plan)
-          (state-is stored) (printed .pass-record .ensures .0) (printed .pass-record .ensures .1),
+      rw (chose loop) (going-turn (going loop) (start-of loop .pre) (at-test read .loop-test .taken) (read .read-message .ensures .0) (message .if2 .left) (plan-is plan)
+          (state-is stored) (printed .pass-record .ensures .0) (printed .pass-record .ensures .1)),
       topic-has message .2,
       payload-has message .2,
     )
@@ -363,21 +378,21 @@ ended c = left-end (text (c .before)) (c .before .loop .line) (c .loop-test .lef
 pass-closing-requires-3 : tie.Need-pass-closing-requires-3 Inv-loop μ-loop
 pass-closing-requires-3 c κs =
     let loop = c .before .before in
-    (going-small (loop .loop .inv .0), close-room (loop .loop .inv .0) (start-of loop .pre) (ended (c .before)))
+    (going-small (going loop), close-room (going loop) (start-of loop .pre) (ended (c .before)))
 
 same-length-3 : tie.Need-same-length-3 Inv-loop μ-loop
 same-length-3 c =
     let closed = c .before .before in
     let loop = closed .before .before .before in
-    closed .pass-closing3 .kept .0 ∙ loop .loop .inv .0 .long
+    closed .pass-closing3 .kept .0 ∙ going loop .long
 
 returns-3 : tie.Need-returns-3 Inv-loop μ-loop
 returns-3 c =
     let closed = c .before .before in
     let stop = closed .before .before in
     let loop = stop .before in (
-      close-end (loop .loop .inv .0) (start-of loop .pre) (ended stop) (closed .pass-closing3 .ensures .0),
-      close-bytes (loop .loop .inv .0) (start-of loop .pre) (ended stop) (closed .pass-closing3 .ensures .1),
+      close-end (going loop) (start-of loop .pre) (ended stop) (closed .pass-closing3 .ensures .0),
+      close-bytes (going loop) (start-of loop .pre) (ended stop) (closed .pass-closing3 .ensures .1),
     )
 
 pub pass-spec : {M : Type 1} → statement M
