@@ -20,6 +20,7 @@ use tables::rules::TopicRule;
 use tables::rules::action_number;
 use tables::trackers::EwmaTracker;
 use tables::windows::ClientStormEntry;
+use topics::matching::Matching;
 
 // How many bytes there are up to the last that is not zero.
 fn used(s: &[u8]) -> usize {
@@ -55,6 +56,13 @@ fn put_id(out: &mut [u8], at: usize, id: Id) -> usize {
 fn put_action(out: &mut [u8], at: usize, action: TopicAction) -> usize {
     let key = put::put_bytes(out, at, b" action=");
     put::put_word(out, key, b"allow|block", action_number(action) as usize)
+}
+
+fn put_matching(out: &mut [u8], at: usize, matching: Matching) -> usize {
+    match matching {
+        Matching::Port => put::put_bytes(out, at, b" match=port"),
+        Matching::Standard => put::put_bytes(out, at, b" match=standard"),
+    }
 }
 
 // The line of a record at a place, unless it is what a free one has.
@@ -196,10 +204,12 @@ fn say_table(m: MqttMonitor, name: &[u8]) {
 // What stands in no table.
 fn say_state(m: MqttMonitor) {
     let action = m.default_action;
+    let matching = m.matching;
     let mut space = room();
     let out: &mut [u8] = &mut space;
     let what = put_action(out, 0, action);
-    let threshold = put_number(out, what, b"threshold", m.connect_storm_threshold as u64);
+    let how = put_matching(out, what, matching);
+    let threshold = put_number(out, how, b"threshold", m.connect_storm_threshold as u64);
     let window = put_number(out, threshold, b"window", m.connect_storm_window_us);
     let next_id = put_number(out, window, b"next_id", m.next_alert_id);
     let inspected = put_number(out, next_id, b"inspected", m.total_inspected);

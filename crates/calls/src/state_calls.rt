@@ -1,5 +1,5 @@
 // Constructors, counters, CONNECT settings, removals and reset:
-//     new · new_deny_default · counters · set_connect_storm_params THRESHOLD WINDOW · remove_rate_bucket TOPIC · remove_ewma_tracker TOPIC · reset_state
+//     new · new_deny_default · new_standard · new_standard_deny_default · counters · set_connect_storm_params THRESHOLD WINDOW · remove_rate_bucket TOPIC · remove_ewma_tracker TOPIC · reset_state
 use crate::messages;
 use crate::parts::number8;
 use crate::say::say_called;
@@ -30,7 +30,7 @@ fn remove(m: MqttMonitor, name: &[u8], q: &[u8]) -> Called {
     calls::remove_ewma_tracker(m, upto(&topic, n))
 }
 
-// A constructor, a counter, or any other.
+// A constructor, or any other.
 pub fn ask(m: MqttMonitor, name: &[u8], q: &[u8]) -> MqttMonitor {
     if is(name, b"new") {
         return calls::new();
@@ -38,6 +38,17 @@ pub fn ask(m: MqttMonitor, name: &[u8], q: &[u8]) -> MqttMonitor {
     if is(name, b"new_deny_default") {
         return calls::new_deny_default();
     }
+    if is(name, b"new_standard") {
+        return calls::new_standard();
+    }
+    if is(name, b"new_standard_deny_default") {
+        return calls::new_standard_deny_default();
+    }
+    count(m, name, q)
+}
+
+// The counters, or any other.
+fn count(m: MqttMonitor, name: &[u8], q: &[u8]) -> MqttMonitor {
     if is(name, b"counters") {
         say_counters(m);
         return m;

@@ -36,7 +36,7 @@ pub extern "C" fn hub_topic_matches(topic: &[u8], pattern: &[u8]) -> bool
     topic_matches(topic, pattern)
 }
 
-// The standard matcher: MQTT 3.1.1 section 4.7, but dollar names are matched as any other (no 4.7.2).
+// The standard matcher: MQTT 3.1.1 section 4.7, with 4.7.2: a leading wildcard takes no name that begins with a dollar sign.
 // An enum does not pass: 0 is no, 1 yes, 9 outside its domain.
 #[no_mangle]
 pub extern "C" fn hub_standard_matches(name: &[u8], pattern: &[u8]) -> u32

@@ -24,7 +24,7 @@ use Rattle.monitor.specs.declared.state.MqttMonitor.{MqttMonitor}
 use Rattle.monitor.proofs.PlainLaws.{add-matching}
 use Rattle.monitor.proofs.state.FormedLaws.{formed-parts}
 
-inspect-keeps : (matcher : List ℕ → List ℕ → Bool) (m : MqttMonitor) (c : Call) → Keeps m (answer matcher m c .monitor)
+pub inspect-keeps : (matcher : List ℕ → List ℕ → Bool) (m : MqttMonitor) (c : Call) → Keeps m (answer matcher m c .monitor)
 unfolding inspectWith applied
 inspect-keeps matcher m c = by (eqb (inspectRefusal m (c .msg) (c .topic) (c .payload)) 0) (λ e. rw e) (λ e. rw e)
 
@@ -63,8 +63,13 @@ left-alike (c ∷ cs) m =
     let next : MqttMonitor = shipped m c .monitor in
     left-alike cs next ∙ ap (λ (matcher : List ℕ → List ℕ → Bool). after matcher next cs) (same-matcher m c)
 
+choice-left : (cs : List Call) (m : MqttMonitor) → Keeps m (afterBy shipped m cs)
+unfolding afterBy
+choice-left [] m = refl
+choice-left (c ∷ cs) m = choice-left cs (shipped m c .monitor) ∙ inspect-keeps (matcherOf m) m c
+
 pub one-matcher : (m : MqttMonitor) (cs : List Call) → OneMatcher m cs
-one-matcher m cs = record { told = told-alike cs m; left = left-alike cs m }
+one-matcher m cs = record { told = told-alike cs m; left = left-alike cs m; choice = choice-left cs m }
 
 -- level by level, whatever the flags
 by-levels : (f d : Bool) (m : MqttMonitor) (c : Call) → answer (matchesWith f d) m c ≡ answer (ruleWith f d) m c

@@ -30,10 +30,11 @@ pub record ChoiceKept : Type 0 where
   pub tracker-removed : (m : MqttMonitor) (topic : List ℕ) → Keeps m (removeTracker m topic .monitor)
   pub reset : (m : MqttMonitor) → Keeps m (resetState m .monitor)
 
--- so the shipped calls of a run, one after the other, answer and leave what calls under the first state's matcher do
+-- so the shipped calls of a run, one after the other, answer and leave what calls under the first state's matcher do, and the last state has its choice
 pub record OneMatcher (m : MqttMonitor) (calls : List Call) : Type 0 where
   pub told : repliesBy shipped m calls ≡ replies (matcherOf m) m calls
   pub left : afterBy shipped m calls ≡ after (matcherOf m) m calls
+  pub choice : Keeps m (afterBy shipped m calls)
 
 -- and each of them answers as an inspection whose rules are matched level by level: by document 01's definition in a port monitor, by MQTT 3.1.1 section 4.7 in a standard one
 abbrev pub ByLevels : Type 0
