@@ -1,12 +1,17 @@
-// hubtrace: a trace on standard input, its answer on standard output (document 01, "The trace"). All of the work is `trace::run::run_trace`; here are only the
-// two buffers and the way in and out. That the answer is whole is promised by `answer`; what `read` and `write` move is the C library's word.
+// hubtrace: a trace on standard input, its answer on standard output (document 01, "The trace"). All of the work is `trace::run::run_trace_by`; here are only the
+// two buffers and the way in and out. That the answer is whole is promised by `answer`; what `read` and `write` move, and the word behind the program's name, are
+// the C library's word. With `--match=standard` the rules are matched as MQTT 3.1.1 section 4.7 has it, else as the Rust does.
 // A program has no exit status of its own: it says on standard error what failed, and nothing where nothing did. `bin/hubtrace` makes a status of that.
+mod asked;
 mod input;
 mod output;
 mod turn;
 
+use asked::Asked;
+use libc::STDERR_FILENO;
 use libc::STDIN_FILENO;
 use libc::STDOUT_FILENO;
+use topics::matching::Matching;
 use trace::run;
 use turn::Done;
 ghost use mathlib.Core.Path.{_≡_};
@@ -31,16 +36,16 @@ fn answer_buffer() -> [u8; 786432]
 }
 
 // The answer to what was read at the beginning of `out`, and its length. There is room for all of it, so 28 never happens. A failed read is not answered.
-fn answer(read: Done, text: &[u8], out: &mut [u8]) -> usize
+fn answer(matching: Matching, read: Done, text: &[u8], out: &mut [u8]) -> usize
     requires { ⌜ DoneWithin read (length (now text)) ⌝ }
     requires { ⌜ enough ≡ length (now out) ⌝ }
     ensures { λ r. ⌜ Counts r (now (out .exit)) ⌝ }
-    ensures { λ r. ⌜ take r (now (out .exit)) ≡ answerTo read (now (text .entry)) ⌝ }
+    ensures { λ r. ⌜ take r (now (out .exit)) ≡ answerTo matching read (now (text .entry)) ⌝ }
 {
     let Done::Bytes(n) = read else {
         return 0;
     };
-    let end = run::run_trace(&text[..n], out);
+    let end = run::run_trace_by(&text[..n], matching, out);
     end.length
 }
 
@@ -52,13 +57,27 @@ fn print(answer: &[u8]) {
     }
 }
 
-fn main() {
+// Reads a trace, and writes its answer or says what failed.
+fn run(matching: Matching) {
     let mut text = text_buffer();
     let read = input::read_all(STDIN_FILENO, &mut text);
     let mut out = answer_buffer();
-    let length = answer(read, &text, &mut out);
+    let length = answer(matching, read, &text, &mut out);
     match read {
         Done::Failed => os::fail(b"hubtrace: the trace could not be read, so nothing was answered"),
         Done::Bytes(_) => print(&out[..length]),
+    }
+}
+
+fn main() {
+    let asked = asked::by_words();
+    match asked {
+        Asked::For(matching) => run(matching),
+        Asked::Unknown => {
+            io::write_all(
+                STDERR_FILENO,
+                b"hubtrace: the one word that it takes is --match=port or --match=standard\n",
+            );
+        }
     }
 }
