@@ -29,6 +29,10 @@ use Rattle.hub.proofs.tracing.hub_trace as tracing-hub-trace
 use Rattle.hub.proofs.tracing.hub_trace.Reads as tracing-hub-trace-reads
 use Rattle.hub.proofs.tracing.hub_trace_length as tracing-hub-trace-length
 use Rattle.hub.proofs.tracing.hub_trace_length.Reads as tracing-hub-trace-length-reads
+use Rattle.hub.proofs.tracing.hub_trace_standard as tracing-hub-trace-standard
+use Rattle.hub.proofs.tracing.hub_trace_standard.Reads as tracing-hub-trace-standard-reads
+use Rattle.hub.proofs.tracing.hub_trace_standard_length as tracing-hub-trace-standard-length
+use Rattle.hub.proofs.tracing.hub_trace_standard_length.Reads as tracing-hub-trace-standard-length-reads
 use Rattle.theorems.specs.One.{Any, One, OneLeft}
 
 pub one-hashing-hub-fnv1a-hash : One hashing-hub-fnv1a-hash.ended hashing-hub-fnv1a-hash-reads.Post
@@ -114,3 +118,15 @@ one-tracing-hub-trace-length κs a x y e f p q = p ∙ sym q
 
 pub any-tracing-hub-trace-length : Any tracing-hub-trace-length.ended tracing-hub-trace-length-reads.Asked
 any-tracing-hub-trace-length κs a = tt
+
+pub one-tracing-hub-trace-standard : OneLeft tracing-hub-trace-standard.ended tracing-hub-trace-standard-reads.Post (λ κs e. now (e .1 .0))
+one-tracing-hub-trace-standard κs a x y e f p q = (p .0 ∙ sym (q .0), p .1 ∙ sym (q .1))
+
+pub any-tracing-hub-trace-standard : Any tracing-hub-trace-standard.ended tracing-hub-trace-standard-reads.Asked
+any-tracing-hub-trace-standard κs a = tt
+
+pub one-tracing-hub-trace-standard-length : One tracing-hub-trace-standard-length.ended tracing-hub-trace-standard-length-reads.Post
+one-tracing-hub-trace-standard-length κs a x y e f p q = p ∙ sym q
+
+pub any-tracing-hub-trace-standard-length : Any tracing-hub-trace-standard-length.ended tracing-hub-trace-standard-length-reads.Asked
+any-tracing-hub-trace-standard-length κs a = tt

@@ -14,6 +14,10 @@ use Rattle.monitor.proofs.calls.new as calls-new
 use Rattle.monitor.proofs.calls.new.Reads as calls-new-reads
 use Rattle.monitor.proofs.calls.new_deny_default as calls-new-deny-default
 use Rattle.monitor.proofs.calls.new_deny_default.Reads as calls-new-deny-default-reads
+use Rattle.monitor.proofs.calls.new_standard as calls-new-standard
+use Rattle.monitor.proofs.calls.new_standard.Reads as calls-new-standard-reads
+use Rattle.monitor.proofs.calls.new_standard_deny_default as calls-new-standard-deny-default
+use Rattle.monitor.proofs.calls.new_standard_deny_default.Reads as calls-new-standard-deny-default-reads
 use Rattle.monitor.proofs.calls.total_inspected as calls-total-inspected
 use Rattle.monitor.proofs.calls.total_inspected.Reads as calls-total-inspected-reads
 use Rattle.monitor.proofs.calls.total_alerts as calls-total-alerts
@@ -105,6 +109,18 @@ one-calls-new-deny-default κs a x y e f p q = p ∙ sym q
 
 pub any-calls-new-deny-default : Any calls-new-deny-default.ended calls-new-deny-default-reads.Asked
 any-calls-new-deny-default κs a = tt
+
+pub one-calls-new-standard : One calls-new-standard.ended calls-new-standard-reads.Post
+one-calls-new-standard κs a x y e f p q = p ∙ sym q
+
+pub any-calls-new-standard : Any calls-new-standard.ended calls-new-standard-reads.Asked
+any-calls-new-standard κs a = tt
+
+pub one-calls-new-standard-deny-default : One calls-new-standard-deny-default.ended calls-new-standard-deny-default-reads.Post
+one-calls-new-standard-deny-default κs a x y e f p q = p ∙ sym q
+
+pub any-calls-new-standard-deny-default : Any calls-new-standard-deny-default.ended calls-new-standard-deny-default-reads.Asked
+any-calls-new-standard-deny-default κs a = tt
 
 pub one-calls-total-inspected : One calls-total-inspected.ended calls-total-inspected-reads.Post
 one-calls-total-inspected κs a x y e f p q = p ∙ sym q

@@ -32,6 +32,8 @@ use Rattle.topics.proofs.payload.compute_payload_hash as payload-compute-payloa
 use Rattle.topics.proofs.payload.compute_payload_hash.Reads as payload-compute-payload-hash-reads
 use Rattle.topics.proofs.matching.matches_with as matching-matches-with
 use Rattle.topics.proofs.matching.matches_with.Reads as matching-matches-with-reads
+use Rattle.topics.proofs.matching.matches_by as matching-matches-by
+use Rattle.topics.proofs.matching.matches_by.Reads as matching-matches-by-reads
 use Rattle.theorems.specs.One.{Any, One}
 
 pub one-hashes-wrapping-mul32 : One hashes-wrapping-mul32.ended hashes-wrapping-mul32-reads.Post
@@ -129,3 +131,9 @@ one-matching-matches-with κs a x y e f p q = p ∙ sym q
 
 pub any-matching-matches-with : Any matching-matches-with.ended matching-matches-with-reads.Asked
 any-matching-matches-with κs a = tt
+
+pub one-matching-matches-by : One matching-matches-by.ended matching-matches-by-reads.Post
+one-matching-matches-by κs a x y e f p q = p ∙ sym q
+
+pub any-matching-matches-by : Any matching-matches-by.ended matching-matches-by-reads.Asked
+any-matching-matches-by κs a = tt

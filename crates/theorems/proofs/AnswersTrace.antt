@@ -23,8 +23,12 @@ use Rattle.trace.proofs.run.load as run-load
 use Rattle.trace.proofs.run.load.Reads as run-load-reads
 use Rattle.trace.proofs.run.trace_length as run-trace-length
 use Rattle.trace.proofs.run.trace_length.Reads as run-trace-length-reads
+use Rattle.trace.proofs.run.trace_length_by as run-trace-length-by
+use Rattle.trace.proofs.run.trace_length_by.Reads as run-trace-length-by-reads
 use Rattle.trace.proofs.run.run_trace as run-run-trace
 use Rattle.trace.proofs.run.run_trace.Reads as run-run-trace-reads
+use Rattle.trace.proofs.run.run_trace_by as run-run-trace-by
+use Rattle.trace.proofs.run.run_trace_by.Reads as run-run-trace-by-reads
 use Rattle.theorems.specs.One.{Any, One, OneLeft}
 use Rattle.theorems.proofs.AnswersLines.{wrote-once}
 
@@ -88,8 +92,20 @@ one-run-trace-length κs a x y e f p q = p ∙ sym q
 pub any-run-trace-length : Any run-trace-length.ended run-trace-length-reads.Asked
 any-run-trace-length κs a = tt
 
+pub one-run-trace-length-by : One run-trace-length-by.ended run-trace-length-by-reads.Post
+one-run-trace-length-by κs a x y e f p q = p ∙ sym q
+
+pub any-run-trace-length-by : Any run-trace-length-by.ended run-trace-length-by-reads.Asked
+any-run-trace-length-by κs a = tt
+
 pub one-run-run-trace : OneLeft run-run-trace.ended run-run-trace-reads.Post (λ κs e. now (e .1 .0))
 one-run-run-trace κs a x y e f p q = (p .0 ∙ sym (q .0), p .1 ∙ sym (q .1))
 
 pub any-run-run-trace : Any run-run-trace.ended run-run-trace-reads.Asked
 any-run-run-trace κs a = tt
+
+pub one-run-run-trace-by : OneLeft run-run-trace-by.ended run-run-trace-by-reads.Post (λ κs e. now (e .1 .1 .0))
+one-run-run-trace-by κs a x y e f p q = (p .0 ∙ sym (q .0), p .1 ∙ sym (q .1))
+
+pub any-run-run-trace-by : Any run-run-trace-by.ended run-run-trace-by-reads.Asked
+any-run-run-trace-by κs a = tt

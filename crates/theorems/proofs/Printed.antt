@@ -14,16 +14,18 @@ use Rattle.laws.proofs.Cases.{by}
 use Rattle.laws.proofs.Every.{every-front, every-back}
 use Rattle.slices.specs.Bytes.{same}
 use Rattle.slices.proofs.bytes.SameLaws.{same-true, same-refl}
+use Rattle.topics.specs.Matching.{matchesBy}
 use Rattle.tables.specs.Identity.{idOf, isOf}
 use Rattle.tables.proofs.identity.IdentityLaws.{is-of-refl, is-of-exact}
 use Rattle.monitor.specs.Inspect.{inspectRefusal, inspectWith}
 use Rattle.monitor.specs.Prepared.{Prepared}
-use Rattle.monitor.specs.Runs.{Call, Reply, answer, shipped, after, repliesBy, replies, isInspected, isPassed}
+use Rattle.monitor.specs.Runs.{Call, Reply, answer, shipped, afterBy, after, repliesBy, replies, isInspected, isPassed}
 use Rattle.monitor.specs.State.{matcherOf, numberOf}
 use Rattle.monitor.specs.declared.state.MqttMonitor.{MqttMonitor}
 use Rattle.monitor.proofs.Chosen.{one-matcher}
 use Rattle.monitor.proofs.Prepared.{prepared-sound}
-use Rattle.trace.specs.Trace.{messagesOf}
+use Rattle.trace.specs.AsRun.{repliesOf}
+use Rattle.trace.specs.Trace.{loaded, messagesOf}
 use Rattle.trace.proofs.AsRun.{as-run, same-read}
 use Rattle.theorems.specs.Printed.{publishes, isQuiet, passedOf, topicRate, calls, TopicLimits, PrintedLimits}
 use Rattle.theorems.specs.Run.{Matcher, time, isAllowed, used, isPublish, isName, rateOf, reaches, InOrder, nothing, single, later, OneRate, done, next, Silent, allowedOf, arrived}
@@ -269,4 +271,14 @@ shipped-limits {m} p cs o i t short limited =
 pub printed-limits : PrintedLimits
 printed-limits matching s =
     let r = as-run matching s in
-    (record { as-run = r; limits = rw (r .choice) at (shipped-limits (r .prepared) (messagesOf matching s .sent)) }, same-read s)
+    let m : MqttMonitor = loaded matching s .monitor in (
+      record {
+        as-run = r;
+        limits =
+            λ o.
+            subst
+            (λ k. (t : List ℕ) → length t ≤ 32 → 0 < topicRate (matchesBy k) m t → TopicLimits (matchesBy k) m t (topicRate (matchesBy k) m t) (repliesOf matching s))
+            (r .choice) (shipped-limits (r .prepared) (messagesOf matching s .sent) o (r .inspected));
+      },
+      same-read s,
+    )

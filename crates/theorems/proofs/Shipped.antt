@@ -7,10 +7,11 @@ use Rattle.tables.specs.declared.identity.Id.{Id}
 use Rattle.monitor.specs.Chosen.{Keeps}
 use Rattle.monitor.specs.Runs.{Call, answer, shipped, afterBy, after}
 use Rattle.monitor.specs.State.{matcherOf}
+use Rattle.monitor.specs.declared.inspection.Inspected.{Inspected}
 use Rattle.monitor.specs.declared.state.MqttMonitor.{MqttMonitor}
 use Rattle.monitor.proofs.Chosen.{one-matcher, inspect-keeps}
-use Rattle.theorems.specs.Run.{reaches, allowedOf}
-use Rattle.theorems.specs.Shipped.{passedBy, ShippedLimits}
+use Rattle.theorems.specs.Run.{isAllowed, reaches, allowedOf}
+use Rattle.theorems.specs.Shipped.{passes, passedBy, ShippedLimits}
 use Rattle.theorems.proofs.Lower.{lower-first, lower-later}
 use Rattle.theorems.proofs.Turns.{Like, rate-like, formed-there, on, on-run, begin}
 use Rattle.theorems.proofs.Upper.{upper}
@@ -25,7 +26,14 @@ unfolding passedBy allowedOf reaches
 passed-alike k e x [] = refl
 passed-alike {p} {m} k e x (c ∷ cs) =
     let a : shipped m c ≡ answer (matcherOf p) m c = ap (λ (matching : Matching). answer (matchesBy matching) m c) e in
-    rw (a, rate-like (matcherOf p) k c, passed-alike (on (matcherOf p) k c) (inspect-keeps (matcherOf p) m c ∙ e) x cs)
+    let v : passes shipped m c ≡ isAllowed (matcherOf p) m c = ap (λ (r : Inspected). r .result .allowed) a in
+    rw (v, a, rate-like (matcherOf p) k c, passed-alike (on (matcherOf p) k c) (inspect-keeps (matcherOf p) m c ∙ e) x cs)
+
+-- and so is the verdict after one
+verdict : (p : MqttMonitor) (cs : List Call) (z : Call) → passes shipped (afterBy shipped p cs) z ≡ isAllowed (matcherOf p) (after (matcherOf p) p cs) z
+verdict p cs z =
+    ap (λ (m : MqttMonitor). passes shipped m z) (one-matcher p cs .left)
+    ∙ ap (λ (matching : Matching). isAllowed (matchesBy matching) (after (matcherOf p) p cs) z) (still p cs)
 
 pub shipped-meets : ShippedLimits
 shipped-meets =
@@ -36,9 +44,8 @@ shipped-meets =
           rw (one-matcher p before .left, passed-alike k (still p before) x (a ∷ between ++ z ∷ []))
           (upper (matcherOf p) p q x R before between a z o r ra rz);
       lower-first =
-          λ p q x before z o h s rz. rw (one-matcher p before .left, still p before) (lower-first (matcherOf p) p q x before z o h s rz);
+          λ p q x before z o h s rz. verdict p before z ∙ lower-first (matcherOf p) p q x before z o h s rz;
       lower-later =
           λ p q x R before between y z o h r ry s rz g.
-          let cs : List Call = before ++ y ∷ between in
-          rw (one-matcher p cs .left, still p cs) (lower-later (matcherOf p) p q x R before between y z o h r ry s rz g);
+          verdict p (before ++ y ∷ between) z ∙ lower-later (matcherOf p) p q x R before between y z o h r ry s rz g;
     }
