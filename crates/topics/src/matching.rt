@@ -44,21 +44,31 @@ fn takes_none(pattern: &[u8], at: usize) -> bool
     pattern[next] == b'#'
 }
 
-// The rest of the pattern at the topic's end.
+// Behind a `+` that takes the empty level at the topic's end, where it does.
+fn past_plus(pattern: &[u8], at: usize, empty_last: bool) -> usize
+    requires { ⌜ at ≤ length (now pattern) ⌝ }
+    ensures rest { λ r. ⌜ takesNone (drop r (now (pattern .entry))) ≡ takesEnd «empty_last» (drop at (now (pattern .entry))) ⌝ }
+    ensures within { λ r. ⌜ r ≤ length (now (pattern .entry)) ⌝ }
+{
+    if !empty_last {
+        return at;
+    }
+    if at == pattern.len() {
+        return at;
+    }
+    if pattern[at] != b'+' {
+        return at;
+    }
+    at + 1
+}
+
+// The rest of the pattern at the topic's end. `takes_none` is asked in one place: a second would make the whole matcher too long to stand in a loop over rules.
 fn takes_end(pattern: &[u8], at: usize, empty_last: bool) -> bool
     requires { ⌜ at ≤ length (now pattern) ⌝ }
     ensures { λ r. ⌜ r ≡ takesEnd «empty_last» (drop at (now (pattern .entry))) ⌝ }
 {
-    if at == pattern.len() {
-        return true;
-    }
-    let next = at + 1;
-    if empty_last {
-        if pattern[at] == b'+' {
-            return takes_none(pattern, next);
-        }
-    }
-    takes_none(pattern, at)
+    let from = past_plus(pattern, at, empty_last);
+    takes_none(pattern, from)
 }
 
 // The walk over both: `#` takes the rest, `+` goes to the end of the topic's level, any other byte takes an equal one; at the topic's end `takes_end` decides.

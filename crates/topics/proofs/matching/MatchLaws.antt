@@ -5,7 +5,7 @@ use mathlib.Core.List.{List, [], _∷_}
 use mathlib.Core.Path.{_≡_, refl, sym, ap, _∙_}
 use Prim.Native.Nat.{ℕ, _+_, _<_, _≤_, min}
 use native.Mathlib.Omega.{arith}
-use borrow.Author.Tests.{eq-eqb, ne-eqb}
+use borrow.Author.Tests.{eq-eqb, ne-eqb, not-true, not-false}
 use lib.Dec.{eqb}
 use lib.ListN.{length, drop, getD, drop-of-length-le}
 use lib.Seq.{drop-drop}
@@ -20,8 +20,8 @@ pub none-end : (p : List ℕ) (j : ℕ) → length p ≤ j → true ≡ takesNon
 unfolding takesNone
 none-end p j l = rw (drop-of-length-le p l)
 
-pub end-end : (f : Bool) (p : List ℕ) (j : ℕ) → length p ≤ j → true ≡ takesEnd f (drop j p)
-unfolding takesEnd
+pub end-end : (f : Bool) (p : List ℕ) (j : ℕ) → length p ≤ j → takesNone (drop j p) ≡ takesEnd f (drop j p)
+unfolding takesNone takesEnd
 end-end f p j l = rw (drop-of-length-le p l)
 
 pub match-end : (f : Bool) (t p : List ℕ) (i : ℕ) → length t ≤ i → matchBytes f (drop i t) p ≡ takesEnd f p
@@ -41,23 +41,28 @@ slash-found s i h e =
     let k : min i (length s) ≡ i = omega arith in
     rw (e, k, ← slash-to (drop i s)) (sym (drop-drop (toByte 47 (drop i s)) i s))
 
+-- without the flag nothing is passed over
+end-none : (q : List ℕ) → takesNone q ≡ takesEnd false q
+unfolding takesNone takesEnd
+end-none [] = refl
+end-none (c ∷ q) = refl
+
+pub end-port : (f : Bool) (p : List ℕ) (j : ℕ) → not f ≡ true → takesNone (drop j p) ≡ takesEnd f (drop j p)
+end-port f p j b = rw (not-true f b) (end-none (drop j p))
+
 -- the pattern alone
 module _ (p : List ℕ) (j : ℕ) (l : j < length p) where
   pub none-hash : getD p j 0 ≡ 35 → true ≡ takesNone (drop j p)
   unfolding takesNone
   none-hash e = rw (opened p j l, eq-eqb _ _ e, takesNone)
 
-  pub end-plus : {f : Bool} → f ≡ true → getD p j 0 ≡ 43 → takesNone (drop (j + 1) p) ≡ takesEnd f (drop j p)
+  pub end-plus : (f : Bool) → not f ≡ false → getD p j 0 ≡ 43 → takesNone (drop (j + 1) p) ≡ takesEnd f (drop j p)
   unfolding takesEnd
-  end-plus b e = rw (opened p j l, b, eq-eqb _ _ e, takesEnd)
+  end-plus f b e = rw (opened p j l, not-false f b, eq-eqb _ _ e, takesEnd)
 
-  pub end-other : {f : Bool} → f ≡ true → (getD p j 0 ≡ 43 → ⊥) → takesNone (drop j p) ≡ takesEnd f (drop j p)
+  pub end-other : (f : Bool) → not f ≡ false → (getD p j 0 ≡ 43 → ⊥) → takesNone (drop j p) ≡ takesEnd f (drop j p)
   unfolding takesEnd
-  end-other b e = rw (opened p j l, b, ne-eqb _ _ e, takesEnd)
-
-  pub end-port : {f : Bool} → f ≡ false → takesNone (drop j p) ≡ takesEnd f (drop j p)
-  unfolding takesEnd
-  end-port b = rw (opened p j l, b)
+  end-other f b e = rw (opened p j l, not-false f b, ne-eqb _ _ e, takesEnd)
 
   module _ (h : getD p j 0 ≡ 35 → ⊥) where
     pub none-other : (getD p j 0 ≡ 47 → ⊥) → false ≡ takesNone (drop j p)
