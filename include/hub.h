@@ -7,13 +7,13 @@
  * - a length is at most PTRDIFF_MAX and lies within the object that its pointer points into;
  * - the bytes that are read are initialised, and nothing changes them during the call; `out` need not be initialised;
  * - what a function writes to overlaps no other argument, and nothing else reads or writes it during the call;
- * - there is room on the stack: 48 KiB for hub_trace and hub_trace_length, 1 KiB for any other (see below).
+ * - there is room on the stack: 48 KiB for a call whose name begins with hub_trace, 1 KiB for any other (see below).
  *
  * Each call then returns, allocates nothing, keeps no pointer and has no state: equal arguments give equal answers, on
  * any thread. A bool is 0 or 1.
  *
  * Stack, in bytes below the caller, by measurement (rattle-kit-5b, x86-64; `bin/measure stack` measures again):
- * hub_trace and hub_trace_length reach 39,458, every other call at most 256, less not being told apart. Whole, cut and
+ * those of traces reach 39,458, every other call at most 256, less not being told apart. Whole, cut and
  * damaged traces were tried; by the disassembly no function of the archive calls itself, no frame grows with its input,
  * and the frames add up to no more. */
 #ifndef HUB_H
@@ -33,9 +33,9 @@ _Static_assert(sizeof(size_t) == 8, "libhub.a is for x86-64: a length has 64 bit
 /* The longest trace, in bytes: a longer one is refused with 27. */
 #define HUB_TRACE_LONGEST 65536
 
-/* An `out` of so many bytes holds the answer to any trace, so hub_trace never gives 28 there (proved). So does one of 12
- * bytes for each byte of the text, if that is at least 109 (proved too). Either spares hub_trace the pass that counts,
- * which costs 0.7 to 1.0 times as much again (docs/MEASURED.md). */
+/* An `out` of so many bytes holds the answer to any trace, so hub_trace and hub_trace_standard never give 28 there
+ * (proved). So does one of 12 bytes for each byte of the text, if that is at least 109 (proved too). Either spares them
+ * the pass that counts, which costs 0.7 to 1.0 times as much again (docs/MEASURED.md). */
 #define HUB_TRACE_ENOUGH 786432
 
 /* The two hashes that tell clients apart. */
@@ -79,8 +79,8 @@ uint32_t hub_pattern_refusal(const uint8_t *pattern, size_t pattern_len);
  * Refuses nothing. */
 bool hub_topic_matches(const uint8_t *topic, size_t topic_len, const uint8_t *pattern, size_t pattern_len);
 
-/* The same by MQTT 3.1.1 section 4.7, but without 4.7.2: a name that begins with a dollar sign is matched as any other.
- * 0 no, 1 yes. Refuses an empty name and a pattern that no rule may have, each with 9; other names that the standard
+/* The same by MQTT 3.1.1 section 4.7: `+` takes an empty last level too, and a pattern that begins with a wildcard
+ * takes no name that begins with a dollar sign (4.7.2). 0 no, 1 yes. Refuses an empty name and a pattern that no rule may have, each with 9; other names that the standard
  * forbids, as one with a zero byte, are matched byte by byte. */
 uint32_t hub_standard_matches(const uint8_t *name, size_t name_len, const uint8_t *pattern, size_t pattern_len);
 
@@ -93,7 +93,7 @@ bool hub_starts_with_dollar(const uint8_t *topic, size_t topic_len);
 /* Whether a topic holds a zero byte, `+` or `#`. Refuses nothing. */
 bool hub_contains_invalid_publish_char(const uint8_t *topic, size_t topic_len);
 
-/* Reads a whole trace, inspects its messages and writes the answer to the front of `out`: the lines of every message
+/* Reads a whole trace, inspects its messages by a monitor whose rules match as hub_topic_matches does, and writes the answer to the front of `out`: the lines of every message
  * up to the end or the refused line, then the four closing lines. The rest of `out` is left as it was. Refuses the
  * text with 9 and 21 to 27; whatever the text, refuses an `out` that the answer does not fit into with 28, line 0,
  * length 0 and nothing written. */
@@ -102,6 +102,12 @@ struct HubTrace hub_trace(const uint8_t *text, size_t text_len, uint8_t *out, si
 /* What hub_trace gives for this text where `out` has room for the whole answer: `length` is the room that it needs.
  * Never 28. */
 struct HubTrace hub_trace_length(const uint8_t *text, size_t text_len);
+
+/* The same two with a monitor whose rules match as hub_standard_matches does, wildcards in a Subscribe's or
+ * Unsubscribe's topic being taken as text. The text has the same lines and is refused alike; only which rule is the
+ * first to match can differ, and what follows from that (docs/DIFFERENCES.md). */
+struct HubTrace hub_trace_standard(const uint8_t *text, size_t text_len, uint8_t *out, size_t out_len);
+struct HubTrace hub_trace_standard_length(const uint8_t *text, size_t text_len);
 
 #ifdef __cplusplus
 }

@@ -31,7 +31,10 @@ static void matching(void) {
     MATCH("/finance", "+/+", true, 1);         /* P3 */
     MATCH("sport/a", "sport/+/#", true, 1);    /* P4 */
     MATCH("sport/a/b", "sport/+", false, 0);   /* P5 */
-    MATCH("$SYS", "#", true, 1);               /* no 4.7.2 */
+    MATCH("$SYS", "#", true, 0);               /* 4.7.2 */
+    MATCH("$SYS/x", "+/x", true, 0);           /* likewise */
+    MATCH("$SYS/x", "$SYS/+", true, 1);        /* the pattern does not begin with a wildcard */
+    MATCH("a/$x", "+/$x", true, 1);            /* nor this name with a dollar sign */
     MATCH("a", "a+", false, 9);                /* outside the standard matcher's domain */
     MATCH("", "#", true, 9);                   /* likewise */
     holds("a name with a zero byte is matched", hub_standard_matches(BYTES("a\0"), BYTES("+")) == 1);
@@ -95,32 +98,54 @@ static bool untouched(size_t from) {
     return from == sizeof room;
 }
 
-static void tracing(void) {
+typedef struct HubTrace TraceCall(const uint8_t *, size_t, uint8_t *, size_t);
+typedef struct HubTrace LengthCall(const uint8_t *, size_t);
+
+/* A matcher's two calls. Both matchers answer all of these alike. */
+static void tracing(TraceCall *traced, LengthCall *counted) {
     const size_t length = sizeof answer - 1;
     memset(room, 0xa5, sizeof room);
-    holds("the length of a trace's answer", ended(hub_trace_length(BYTES(text)), 0, 20, length));
-    holds("28 where the room is a byte too short", ended(hub_trace(BYTES(text), room, length - 1), 28, 0, 0));
-    holds("28 where there is no room", ended(hub_trace(BYTES(text), room, 0), 28, 0, 0));
+    holds("the length of a trace's answer", ended(counted(BYTES(text)), 0, 20, length));
+    holds("28 where the room is a byte too short", ended(traced(BYTES(text), room, length - 1), 28, 0, 0));
+    holds("28 where there is no room", ended(traced(BYTES(text), room, 0), 28, 0, 0));
     holds("28 writes nothing", untouched(0));
-    holds("how a trace ends", ended(hub_trace(BYTES(text), room, length), 0, 20, length));
+    holds("how a trace ends", ended(traced(BYTES(text), room, length), 0, 20, length));
     holds("its answer", memcmp(room, answer, length) == 0);
     holds("the room behind it", untouched(length));
     memset(room, 0xa5, sizeof room);
-    holds("the same with room enough for any", ended(hub_trace(BYTES(text), room, sizeof room), 0, 20, length));
+    holds("the same with room enough for any", ended(traced(BYTES(text), room, sizeof room), 0, 20, length));
     holds("its answer", memcmp(room, answer, length) == 0 && untouched(length));
 
-    holds("the length of a refused answer", ended(hub_trace_length(BYTES("")), 26, 1, sizeof refused - 1));
-    holds("an empty text", ended(hub_trace(BYTES(""), room, sizeof room), 26, 1, sizeof refused - 1));
+    holds("the length of a refused answer", ended(counted(BYTES("")), 26, 1, sizeof refused - 1));
+    holds("an empty text", ended(traced(BYTES(""), room, sizeof room), 26, 1, sizeof refused - 1));
     holds("its answer", memcmp(room, refused, sizeof refused - 1) == 0);
     holds("27 is for texts over the longest",
-          hub_trace(longer, sizeof longer, room, sizeof room).number == 27 &&
-              hub_trace(longer, sizeof longer - 1, room, sizeof room).number == 26);
+          traced(longer, sizeof longer, room, sizeof room).number == 27 &&
+              traced(longer, sizeof longer - 1, room, sizeof room).number == 26);
+}
+
+/* A Subscribe to `$SYS/x` where the one rule allows `#`: the port's rule takes it, the standard's does not. */
+static void choosing(void) {
+    static const char dollar[] = "default=block\nrules=1\npattern=23\naction=allow\nqos=any\nrate=0\n"
+                                 "at=0\nclock=ok\ntype=8\nqos=0\ntopic=245359532f78\nsize=0\npayload=\n";
+    static const char taken[] = "n=1\nallowed=1\nalerts=0\nend=0\nline=13\ninspected=1\ntotal=0\n";
+    static const char denied[] = "n=1\nallowed=0\nalerts=1\nid=1\nkind=10\nseverity=2\n"
+                                 "hash=0000000000000000000000000000000000000000000000000000000000000000\n"
+                                 "end=0\nline=13\ninspected=1\ntotal=1\n";
+    holds("the port lets it pass", ended(hub_trace(BYTES(dollar), room, sizeof room), 0, 13, sizeof taken - 1));
+    holds("its answer", memcmp(room, taken, sizeof taken - 1) == 0);
+    holds("the standard denies it", ended(hub_trace_standard(BYTES(dollar), room, sizeof room), 0, 13, sizeof denied - 1));
+    holds("its answer", memcmp(room, denied, sizeof denied - 1) == 0);
+    holds("their lengths", hub_trace_length(BYTES(dollar)).length == sizeof taken - 1 &&
+                               hub_trace_standard_length(BYTES(dollar)).length == sizeof denied - 1);
 }
 
 int main(void) {
     matching();
     hashing();
-    tracing();
+    tracing(hub_trace, hub_trace_length);
+    tracing(hub_trace_standard, hub_trace_standard_length);
+    choosing();
     printf("%d passed, %d failed\n", passed, failed);
     return failed != 0;
 }
