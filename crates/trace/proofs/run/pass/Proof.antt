@@ -193,9 +193,7 @@ pass-closing-requires-2 c κs =
 
 same-length-2 : tie.Need-same-length-2 Inv-loop μ-loop
 same-length-2 c =
-    let closed = c .before .before in
-    let loop = at-loop (read-of (closed .before .before .before)) in
-    closed .pass-closing2 .kept .0 ∙ going loop .long
+    let closed = c .before .before in closed .pass-closing2 .kept .0 ∙ going (at-loop (read-of (closed .before .before .before))) .long
 
 returns-2 : tie.Need-returns-2 Inv-loop μ-loop
 returns-2 c =
@@ -377,14 +375,10 @@ ended c = left-end (text (c .before)) (c .before .loop .line) (c .loop-test .lef
 
 pass-closing-requires-3 : tie.Need-pass-closing-requires-3 Inv-loop μ-loop
 pass-closing-requires-3 c κs =
-    let loop = c .before .before in
-    (going-small (going loop), close-room (going loop) (start-of loop .pre) (ended (c .before)))
+    let loop = c .before .before in (going-small (going loop), close-room (going loop) (start-of loop .pre) (ended (c .before)))
 
 same-length-3 : tie.Need-same-length-3 Inv-loop μ-loop
-same-length-3 c =
-    let closed = c .before .before in
-    let loop = closed .before .before .before in
-    closed .pass-closing3 .kept .0 ∙ going loop .long
+same-length-3 c = let closed = c .before .before in closed .pass-closing3 .kept .0 ∙ going (closed .before .before .before) .long
 
 returns-3 : tie.Need-returns-3 Inv-loop μ-loop
 returns-3 c =
