@@ -1,0 +1,35 @@
+# emulating.sh: what the part `emulated` of bin/measure needs: programs for x86-64 over the archives of loops and hub, made by the kit's compiler, and an emulator
+# that counts. bin/measure reads it, in the repository's folder, with $room a folder for the run.
+
+# ready: the archives, the programs over them, the plugin that counts, and the traces that we measure with. The traces are written by a host for this machine.
+ready() {
+    oracle/install qemu-user /usr/bin/qemu-x86_64
+    gcc -O2 -Wall -Wextra -Werror -shared -fPIC -o "$room/emulator.so" oracle/emulator.c
+    kit=$(rt doc)
+    tools=${kit%/docs/*}/on/$(uname -m)/toolchain
+    for crate in loops hub; do
+        rt staticlib "$crate" >&2
+        "$tools/bin/clang" --target=x86_64-unknown-linux-gnu -O2 -fPIC -I include -D"over_$crate" -c -o "$room/$crate.o" oracle/emulated.c
+        "$tools/bin/ld.lld" -pie -dynamic-linker "$tools/lib/ld-linux-x86-64.so.2" -o "$room/$crate" "$tools/lib/Scrt1.o" "$tools/lib/crti.o" \
+            "$tools/lib/crtbeginS.o" "$room/$crate.o" "target/staticlib/lib$crate.a" "$tools/lib/libc.so.6" "$tools/lib/libc_nonshared.a" "$tools/lib/libgcc.a" \
+            "$tools/lib/libgcc_s.so.1" "$tools/lib/crtendS.o" "$tools/lib/crtn.o"
+    done
+    oracle/build
+    oracle/archive hub >&2
+    oracle/host benchtraces target/staticlib
+    mkdir "$room/traces"
+    target/oracle/benchtraces write "$room/traces"
+}
+
+# emulator CRATE WORDS...: what the program over the archive of a crate says; the instructions of its run are then in $room/count.
+emulator() {
+    program=$room/$1
+    shift
+    COUNT=$room/count QEMU_CPU=max,-erms,-fsrm qemu-x86_64 -plugin "$room/emulator.so" "$tools/lib/ld-linux-x86-64.so.2" --library-path "$tools/lib" "$program" "$@"
+}
+
+# counted CRATE WORDS...: those instructions.
+counted() {
+    emulator "$@" >"$room/said"
+    cat "$room/count"
+}
