@@ -8,6 +8,7 @@ use Rattle.monitor.proofs.Four.{four-at-most, none-dropped}
 use Rattle.monitor.proofs.Reached.{sound-always}
 use Rattle.monitor.proofs.Total.{total-is-sum}
 use Rattle.monitor.proofs.Unbroken.{unbroken-always}
+use Rattle.trace.proofs.AsRun.{same-read}
 use Rattle.theorems.specs.Claims.{Claims}
 use Rattle.theorems.proofs.Corners.{corners}
 use Rattle.theorems.proofs.Loop.{loop-limits}
@@ -32,6 +33,7 @@ claims =
       printed = printed-limits;
       printed-met = witness;
       looped = loop-limits;
+      read-alike = same-read;
       chosen = chosen;
       sound = sound-always;
       unbroken = unbroken-always;

@@ -26,7 +26,7 @@ use Rattle.monitor.proofs.Chosen.{one-matcher}
 use Rattle.monitor.proofs.Prepared.{prepared-sound}
 use Rattle.trace.specs.AsRun.{repliesOf}
 use Rattle.trace.specs.Trace.{loaded, messagesOf}
-use Rattle.trace.proofs.AsRun.{as-run, same-read}
+use Rattle.trace.proofs.AsRun.{as-run}
 use Rattle.theorems.specs.Printed.{publishes, isQuiet, passedOf, topicRate, calls, TopicLimits, PrintedLimits}
 use Rattle.theorems.specs.Run.{Matcher, time, isAllowed, used, isPublish, isName, rateOf, reaches, InOrder, nothing, single, later, OneRate, done, next, Silent, allowedOf, arrived}
 use Rattle.theorems.proofs.Lower.{lower-first, lower-later}
@@ -271,14 +271,12 @@ shipped-limits {m} p cs o i t short limited =
 pub printed-limits : PrintedLimits
 printed-limits matching s =
     let r = as-run matching s in
-    let m : MqttMonitor = loaded matching s .monitor in (
-      record {
-        as-run = r;
-        limits =
-            λ o.
-            subst
-            (λ k. (t : List ℕ) → length t ≤ 32 → 0 < topicRate (matchesBy k) m t → TopicLimits (matchesBy k) m t (topicRate (matchesBy k) m t) (repliesOf matching s))
-            (r .choice) (shipped-limits (r .prepared) (messagesOf matching s .sent) o (r .inspected));
-      },
-      same-read s,
-    )
+    let m : MqttMonitor = loaded matching s .monitor in
+    record {
+      as-run = r;
+      limits =
+          λ o.
+          subst
+          (λ k. (t : List ℕ) → length t ≤ 32 → 0 < topicRate (matchesBy k) m t → TopicLimits (matchesBy k) m t (topicRate (matchesBy k) m t) (repliesOf matching s))
+          (r .choice) (shipped-limits (r .prepared) (messagesOf matching s .sent) o (r .inspected));
+    }

@@ -7,6 +7,7 @@ use Rattle.lines.specs.Round.{Round}
 use Rattle.monitor.specs.Chosen.{Chosen}
 use Rattle.monitor.specs.Reached.{SoundAlways, UnbrokenAlways}
 use Rattle.monitor.specs.Told.{DeniedByKind, AtMostFour, NoneDropped, TotalIsSum}
+use Rattle.trace.specs.AsRun.{ReadAlike}
 use Rattle.theorems.specs.Corners.{Corners}
 use Rattle.theorems.specs.Limits.{Upper, LowerFirst, LowerLater}
 use Rattle.theorems.specs.Printed.{PrintedLimits, LoopLimits}
@@ -30,13 +31,14 @@ pub record Claims : Type 0 where
   pub met : Met × MetLater × Night
   -- three slips of a limiter break the upper half
   pub slips : Slips
-  -- WHAT IS PRINTED is what `inspect` answers, message by message, for every text and either matcher, and what is read is the same for both; and demand 3 holds of it, for each topic
-  -- of at most 32 bytes
+  -- WHAT IS PRINTED is what `inspect` answers, message by message, for every text and either matcher; and demand 3 holds of it, for each topic of at most 32 bytes
   pub printed : PrintedLimits
   -- a trace that prints `allowed=1` exactly as often as that lets it
   pub printed-met : Witness
   -- so too of the loop that `bin/measure loop` runs
   pub looped : LoopLimits
+  -- what is read of a trace's text is the same for either matcher: rules, messages, end and line
+  pub read-alike : ReadAlike
   -- A MONITOR'S MATCHER is the one that its constructor chose: every call keeps it, runs take it throughout, and by it the rules are chosen level by level
   pub chosen : Chosen
   -- ONE INSPECTION AND MANY. Every state that calls hand out is sound, so number 10 is never met in one

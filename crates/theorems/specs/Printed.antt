@@ -16,7 +16,7 @@ use Rattle.monitor.specs.Prepared.{Prepared}
 use Rattle.monitor.specs.State.{matcherOf}
 use Rattle.monitor.specs.Runs.{Call, Reply, shipped, repliesBy, isInspected, isPassed}
 use Rattle.monitor.specs.declared.state.MqttMonitor.{MqttMonitor}
-use Rattle.trace.specs.AsRun.{AsRun, SameRead, repliesOf}
+use Rattle.trace.specs.AsRun.{AsRun, repliesOf}
 use Rattle.trace.specs.Trace.{loaded, messagesOf}
 use Rattle.loops.specs.Inspections.{fromAt, loopMessage, readied, loopAllowed}
 use Rattle.theorems.specs.Run.{Matcher, time, used, isPublish, firstRate, rulesIn, isName, InOrder, arrived}
@@ -109,9 +109,9 @@ module _ (n : ℕ) (topics : List ℕ) (width size : ℕ) where
         (t : List ℕ) → length t ≤ 32 → 0 < topicRate (matcherOf (readied n)) (readied n) t
         → TopicLimits (matcherOf (readied n)) (readied n) t (topicRate (matcherOf (readied n)) (readied n) t) (loopReplies k)
 
--- of any text, which is read alike for either matcher, and of any loop whose topics are lent whole
+-- of any text, and of any loop whose topics are lent whole
 abbrev pub PrintedLimits : Type 0
-PrintedLimits = (matching : Matching) (s : List ℕ) → Printed matching s × SameRead s
+PrintedLimits = (matching : Matching) (s : List ℕ) → Printed matching s
 
 abbrev pub LoopLimits : Type 0
 LoopLimits = (n : ℕ) (topics : List ℕ) (width size k : ℕ) → width ≤ 128 → width ≤ length topics → Looped n topics width size k

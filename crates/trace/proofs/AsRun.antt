@@ -20,7 +20,7 @@ use Rattle.monitor.specs.declared.state.MqttMonitor.{MqttMonitor}
 use Rattle.monitor.proofs.state.KeptFormed.{applied-formed}
 use Rattle.monitor.proofs.Prepared.{prepared-sound}
 use Rattle.monitor.proofs.Replies.{exact-done}
-use Rattle.trace.specs.AsRun.{recordsText, AsRun, SameRead}
+use Rattle.trace.specs.AsRun.{recordsText, AsRun, ReadAlike}
 use Rattle.trace.specs.Groups.{messageAt}
 use Rattle.trace.specs.Record.{recordText, closingText}
 use Rattle.trace.specs.Trace.{Messages, loaded, messagesFrom, messagesOf, planned, textFrom, traceText}
@@ -109,6 +109,6 @@ same-messages : (matching : Matching) (s : List ℕ) → messagesOf matching s �
 unfolding messagesOf
 same-messages matching s = rw (loaded-alike matching s)
 
-pub same-read : (s : List ℕ) → SameRead s
+pub same-read : ReadAlike
 same-read s =
     record { rules = λ a b. sym (same-rules a s) ∙ same-rules b s; messages = λ a b. same-messages a s ∙ sym (same-messages b s) }

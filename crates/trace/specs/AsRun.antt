@@ -44,3 +44,7 @@ pub record AsRun (matching : Matching) (s : List ℕ) : Type 0 where
 pub record SameRead (s : List ℕ) : Type 0 where
   pub rules : (a b : Matching) → rulesOf (loaded a s) ≡ rulesOf (loaded b s)
   pub messages : (a b : Matching) → messagesOf a s ≡ messagesOf b s
+
+-- for every text
+abbrev pub ReadAlike : Type 0
+ReadAlike = (s : List ℕ) → SameRead s
