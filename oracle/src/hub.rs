@@ -89,8 +89,8 @@ pub fn topic_matches(topic: &[u8], pattern: &[u8]) -> bool {
     unsafe { raw::hub_topic_matches(topic.as_ptr(), topic.len(), pattern.as_ptr(), pattern.len()) }
 }
 
-/// MQTT 3.1.1 matching without its exception for dollar names (4.7.2): 0 no, 1 yes. Refuses an empty name and a pattern
-/// that `add_rule` refuses, with 9.
+/// MQTT 3.1.1 matching, section 4.7 with its exception for dollar names (4.7.2): 0 no, 1 yes. Refuses an empty name and a
+/// pattern that `add_rule` refuses, with 9.
 #[inline]
 pub fn standard_matches(name: &[u8], pattern: &[u8]) -> u32 {
     unsafe { raw::hub_standard_matches(name.as_ptr(), name.len(), pattern.as_ptr(), pattern.len()) }
