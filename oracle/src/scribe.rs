@@ -8,7 +8,7 @@ use crate::met::Met;
 use crate::play::Play;
 use crate::scenes::{Pairs, reblocked};
 use crate::tally::Random;
-use vs_mqtt_monitor::state;
+use vs_mqtt_monitor::{MqttMonitor, state};
 
 const CONNECT: u8 = 1;
 const PUBLISH: u8 = 3;
@@ -464,9 +464,19 @@ fn some_place(scribe: &mut Scribe, places: usize) -> usize {
     scribe.random.below(most)
 }
 
+/// Mostly a place that is held, where there is one.
+fn held_place(scribe: &mut Scribe, places: usize, held: fn(&MqttMonitor, usize) -> bool) -> usize {
+    let monitor = &scribe.play.original.monitor;
+    let all: Vec<usize> = (0..places).filter(|&place| held(monitor, place)).collect();
+    if all.is_empty() || scribe.random.one_in(4) { some_place(scribe, places) } else { scribe.random.pick(&all) }
+}
+
 /// Something that no call leaves, which is taken away again or stays.
 fn spoil(scribe: &mut Scribe) {
-    let (rule, place) = (some_place(scribe, 32), some_place(scribe, 16));
+    let rule = held_place(scribe, 32, |monitor, place| place < monitor.rule_count());
+    let bucket = held_place(scribe, 32, |monitor, place| state::bucket(monitor, place).is_some());
+    let tracker = held_place(scribe, 16, |monitor, place| state::tracker(monitor, place).is_some());
+    let window = held_place(scribe, 16, |monitor, place| state::window(monitor, place).is_some());
     let count = scribe.play.original.monitor.rule_count();
     let line = match scribe.random.below(8) {
         0 => format!("rule_count {}", scribe.random.pick(&[count + 1, 31, 32, 33, 65_535])),
@@ -476,10 +486,10 @@ fn spoil(scribe: &mut Scribe) {
             let bad = scribe.random.pick(&["a+", "#/a", "a#", "++", "a\0", "+/+/+/+", ""]);
             format!("rule_pattern {rule} {}", arg(bad.as_bytes()))
         }
-        4 => format!("bucket_prefix {rule} {}", scribe.random.pick(&[31, 32, 33, 255])),
-        5 => format!("tracker_prefix {place} {}", scribe.random.pick(&[31, 32, 33, 255])),
-        6 => format!("window_count {place} {}", scribe.random.pick(&[15, 16, 17, 255])),
-        _ => format!("bucket_live {rule} {}", scribe.random.below(2)),
+        4 => format!("bucket_prefix {bucket} {}", scribe.random.pick(&[31, 32, 33, 255])),
+        5 => format!("tracker_prefix {tracker} {}", scribe.random.pick(&[31, 32, 33, 255])),
+        6 => format!("window_count {window} {}", scribe.random.pick(&[15, 16, 17, 255])),
+        _ => format!("bucket_live {bucket} {}", scribe.random.below(2)),
     };
     scribe.line(line);
 }
@@ -521,7 +531,7 @@ fn number_10(scribe: &mut Scribe) {
 fn set_record(scribe: &mut Scribe) {
     let (rule, place) = (some_place(scribe, 32), some_place(scribe, 16));
     let flag = scribe.random.below(2);
-    let line = match scribe.random.below(13) {
+    let line = match scribe.random.below(14) {
         0 => format!("tokens {rule} {}", scribe.random.pick(&[0, 1, 2, 65_534, 65_535])),
         1 => format!("bucket_live {rule} {flag}"),
         2 => format!("bucket_prefix {rule} {}", scribe.random.pick(&[0, 1, 2, 31, 32])),
