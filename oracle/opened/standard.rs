@@ -31,7 +31,8 @@ pub mod matcher {
         let mut result = false;
         // Both end in a zero byte behind the topic or the pattern, and have no other before it.
         let refused = unsafe { mosquitto_topic_matches_sub(filter.as_ptr().cast(), name.as_ptr().cast(), &mut result) };
-        assert!(refused == 0, "libmosquitto refuses with {refused}: name {name:?}, filter {filter:?}");
+        let (topic, pattern) = (topic.escape_ascii(), pattern.escape_ascii());
+        assert!(refused == 0, "libmosquitto refuses with {refused}: topic \"{topic}\", pattern \"{pattern}\"");
         result
     }
 }

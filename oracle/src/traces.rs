@@ -72,7 +72,6 @@ impl Run {
     /// The traces of one maker, then a damaged copy of each.
     fn scene(&mut self, maker: &Maker, seed: u64, random: &mut Random, pairs: &Pairs) {
         let mut whole = Class::new(format!("{}, seed {seed}", maker.0));
-        let mut damaged = Class::new(format!("damaged: {}, seed {seed}", maker.0));
         let before: Vec<u64> = maker.2.iter().map(|what| self.met.times(what)).collect();
         let mut texts = Vec::new();
         for _ in 0..TURNS {
@@ -84,10 +83,12 @@ impl Run {
         for (what, before) in maker.2.iter().zip(before) {
             whole.seen(what, self.met.times(what) - before);
         }
+        self.classes.push(whole);
+        let mut damaged = Class::new(format!("damaged: {}, seed {seed}", maker.0));
         for text in texts {
             self.compare(&mut damaged, &damage::one(random, &text), 0);
         }
-        self.classes.extend([whole, damaged]);
+        self.classes.push(damaged);
     }
 
     /// Traces whose verdicts are those of the original's own TimestampValidator: the port, which reads them, against
