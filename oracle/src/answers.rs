@@ -1,13 +1,19 @@
 //! What the Rust original answers to a line of a script, as crates/calls writes the port's answer. Three things are not
 //! the original's, which has no such number or leaves such bytes: 10 for a state that no call hands out, 9 for a lent
 //! topic or payload shorter than the part used, and zeros behind the pattern of a rule that is added
-//! (docs/DIFFERENCES.md). A line that is not understood, or a field that there is not, ends the program.
+//! (docs/DIFFERENCES.md). A line that is not understood, or a field that there is not, ends the program; so does a
+//! constructor of monitors that choose rules by another matcher than the original that this is built over.
 
 use std::fmt::{Display, Formatter, Result as Written};
 use vs_mqtt_monitor::state::{self, Id};
-use vs_mqtt_monitor::{MqttInspectResult, MqttMonitor, QosPolicy, TopicAction};
+use vs_mqtt_monitor::{MqttInspectResult, MqttMonitor, QosPolicy, TopicAction, matcher};
 use vs_types::VsError;
 use vs_types_embedded::{MonitorReset, MqttMessage, MqttPacketType, MqttQoS, opened};
+
+/// The constructors, and the word for the matcher of what they make.
+pub const NEW: &str = if matcher::STANDARD { "new_standard" } else { "new" };
+pub const NEW_DENY_DEFAULT: &str = if matcher::STANDARD { "new_standard_deny_default" } else { "new_deny_default" };
+const MATCH: &str = if matcher::STANDARD { "standard" } else { "port" };
 
 /// Fields that a script may set.
 const FIELDS: [&str; 6] = ["next_id", "total_inspected", "total_alerts", "threshold", "window", "rule_count"];
@@ -35,7 +41,7 @@ pub enum Answer {
     Text(String),
     Done(u16),
     Refused(u32),
-    Inspected(MqttInspectResult),
+    Inspected(MqttMessage, MqttInspectResult),
 }
 
 impl Display for Answer {
@@ -44,7 +50,7 @@ impl Display for Answer {
             Answer::Text(text) => write!(out, "{text}"),
             Answer::Done(number) => write!(out, " done={number}"),
             Answer::Refused(number) => write!(out, " refused={number}"),
-            Answer::Inspected(result) => {
+            Answer::Inspected(_, result) => {
                 write!(out, " allowed={} alerts={}", result.allowed as u8, result.alert_count)?;
                 for (place, alert) in result.alerts[..result.alert_count as usize].iter().enumerate() {
                     let (id, kind, severity) = (alert.id, alert.source_id, alert.severity as u32);
@@ -152,8 +158,8 @@ impl Original {
         let monitor = &mut self.monitor;
         let mut text = String::new();
         match name {
-            "new" => *monitor = MqttMonitor::new(),
-            "new_deny_default" => *monitor = MqttMonitor::new_deny_default(),
+            NEW => *monitor = MqttMonitor::new(),
+            NEW_DENY_DEFAULT => *monitor = MqttMonitor::new_deny_default(),
             "counters" => {
                 let (inspected, alerts) = (monitor.total_inspected(), monitor.total_alerts());
                 text = format!(" inspected={inspected} alerts={alerts} rules={}", monitor.rule_count());
@@ -231,7 +237,8 @@ fn inspect(monitor: &mut MqttMonitor, claimed: bool, args: &Args) -> Answer {
     message.topic[..topic.len()].copy_from_slice(&topic);
     message.payload[..payload.len()].copy_from_slice(&payload);
     opened::set_verdict(args.0[1] == "ok");
-    Answer::Inspected(monitor.inspect(&message))
+    let result = monitor.inspect(&message);
+    Answer::Inspected(message, result)
 }
 
 pub fn hex(bytes: &[u8]) -> String {
@@ -294,7 +301,7 @@ fn look(monitor: &MqttMonitor, what: &str) -> String {
         let (action, threshold, window, next_id) = state::settings(monitor);
         let (action, rules) = (action_word(action), monitor.rule_count());
         let (inspected, alerts) = (monitor.total_inspected(), monitor.total_alerts());
-        text += &format!(" action={action} threshold={threshold} window={window} next_id={next_id}");
+        text += &format!(" action={action} match={MATCH} threshold={threshold} window={window} next_id={next_id}");
         text += &format!(" inspected={inspected} alerts={alerts} rules={rules}");
     }
     for (table, places) in TABLES {

@@ -41,7 +41,7 @@ fn rust_trace(text: &[u8], out: &mut Vec<u8>) {
 /// How many messages a whole trace has; 0 for one that is refused.
 fn messages(text: &[u8]) -> usize {
     let mut count = 0;
-    let end = trace::run_watched(text, &mut Vec::new(), |_, _| count += 1);
+    let end = trace::run_watched(text, &mut Vec::new(), |_, _, _| count += 1);
     if end.number == 0 { count } else { 0 }
 }
 

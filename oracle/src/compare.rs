@@ -49,8 +49,12 @@ fn refusal(pattern: &[u8]) -> u32 {
 }
 
 /// Matching of section 4.7 on a valid pattern: `+` takes one level, also an empty one, `#` this level and all after
-/// it, also none; any other level takes an equal one.
+/// it, also none; any other level takes an equal one. A pattern that begins with a wildcard takes no name that begins with
+/// a dollar sign (4.7.2).
 fn standard(name: &[u8], pattern: &[u8]) -> bool {
+    if name.starts_with(b"$") && matches!(pattern[0], b'+' | b'#') {
+        return false;
+    }
     let mut levels = name.split(|&byte| byte == b'/');
     for wanted in pattern.split(|&byte| byte == b'/') {
         if wanted == b"#" {

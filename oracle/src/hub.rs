@@ -38,6 +38,8 @@ mod raw {
         pub fn hub_contains_invalid_publish_char(topic: *const u8, topic_len: usize) -> bool;
         pub fn hub_trace(text: *const u8, text_len: usize, out: *mut u8, out_len: usize) -> HubTrace;
         pub fn hub_trace_length(text: *const u8, text_len: usize) -> HubTrace;
+        pub fn hub_trace_standard(text: *const u8, text_len: usize, out: *mut u8, out_len: usize) -> HubTrace;
+        pub fn hub_trace_standard_length(text: *const u8, text_len: usize) -> HubTrace;
     }
 }
 
@@ -89,8 +91,8 @@ pub fn topic_matches(topic: &[u8], pattern: &[u8]) -> bool {
     unsafe { raw::hub_topic_matches(topic.as_ptr(), topic.len(), pattern.as_ptr(), pattern.len()) }
 }
 
-/// MQTT 3.1.1 matching without its exception for dollar names (4.7.2): 0 no, 1 yes. Refuses an empty name and a pattern
-/// that `add_rule` refuses, with 9.
+/// MQTT 3.1.1 matching, section 4.7 with its exception for dollar names (4.7.2): 0 no, 1 yes. Refuses an empty name and a
+/// pattern that `add_rule` refuses, with 9.
 #[inline]
 pub fn standard_matches(name: &[u8], pattern: &[u8]) -> u32 {
     unsafe { raw::hub_standard_matches(name.as_ptr(), name.len(), pattern.as_ptr(), pattern.len()) }
@@ -125,4 +127,16 @@ pub fn trace(text: &[u8], out: &mut [u8]) -> HubTrace {
 #[inline]
 pub fn trace_length(text: &[u8]) -> HubTrace {
     unsafe { raw::hub_trace_length(text.as_ptr(), text.len()) }
+}
+
+/// `trace` of a monitor that chooses rules by MQTT 3.1.1. Refuses what `trace` does.
+#[inline]
+pub fn trace_standard(text: &[u8], out: &mut [u8]) -> HubTrace {
+    unsafe { raw::hub_trace_standard(text.as_ptr(), text.len(), out.as_mut_ptr(), out.len()) }
+}
+
+/// What `trace_standard` hands back where `out` has room for the whole answer.
+#[inline]
+pub fn trace_standard_length(text: &[u8]) -> HubTrace {
+    unsafe { raw::hub_trace_standard_length(text.as_ptr(), text.len()) }
 }

@@ -3,7 +3,8 @@
 
 use std::collections::BTreeMap;
 use trace::End;
-use vs_mqtt_monitor::{MqttInspectResult, MqttMonitor, opened};
+use vs_mqtt_monitor::{MqttInspectResult, MqttMonitor, matcher, opened, state};
+use vs_types_embedded::{MqttMessage, MqttPacketType};
 
 pub const KINDS: [&str; 12] = [
     "kind 0", "kind 1", "kind 2", "kind 3", "kind 4", "kind 5", "kind 6", "kind 7", "kind 8", "kind 9", "kind 10",
@@ -11,6 +12,12 @@ pub const KINDS: [&str; 12] = [
 ];
 pub const PLACES: [&str; 4] = ["bucket replaced", "bucket expired", "client replaced", "tracker replaced"];
 const ENDS: [&str; 9] = ["end 0", "end 9", "end 21", "end 22", "end 23", "end 24", "end 25", "end 26", "end 27"];
+
+/// Messages that reach the choice of a rule, and for which the port would choose another than MQTT 3.1.1 does: because it
+/// takes a dollar name, or because it refuses an empty last level.
+const DOLLAR_NAMES: [&str; 3] = ["dollar name in Publish", "dollar name in Subscribe", "dollar name in Unsubscribe"];
+const EMPTY_LEVELS: [&str; 3] =
+    ["empty last level in Publish", "empty last level in Subscribe", "empty last level in Unsubscribe"];
 
 /// How often each thing was met.
 #[derive(Default)]
@@ -20,13 +27,12 @@ pub struct Met(BTreeMap<&'static str, u64>);
 pub fn all() -> impl Iterator<Item = &'static str> {
     let more =
         ["end 28", "four alerts at once", "hash in an alert", "rule overwritten", "clock back", "traces", "messages"];
-    KINDS[1..].iter().copied().chain(PLACES).chain(ENDS).chain(more)
+    KINDS[1..].iter().copied().chain(PLACES).chain(ENDS).chain(more).chain(choices())
 }
 
-/// The values of all lines with this key.
-fn values<'a>(text: &'a [u8], key: &'a [u8]) -> impl Iterator<Item = &'a str> {
-    let lines = text.split(|&byte| byte == b'\n');
-    lines.filter_map(move |line| std::str::from_utf8(line.strip_prefix(key)?).ok())
+/// What only monitors meet that choose rules by MQTT 3.1.1; nothing where the original is one that does not.
+pub fn choices() -> impl Iterator<Item = &'static str> {
+    DOLLAR_NAMES.into_iter().chain(EMPTY_LEVELS).filter(|_| matcher::STANDARD)
 }
 
 impl Met {
@@ -42,15 +48,15 @@ impl Met {
     pub fn expected(&mut self, text: &[u8]) -> (End, Vec<u8>) {
         let mut out = Vec::new();
         let mut before = [None; 64];
-        let mut times = values(text, b"at=");
-        let (mut last, rules) = (0, values(text, b"pattern=").count());
-        let end = trace::run_watched(text, &mut out, |monitor, result| {
-            let now = times.next().and_then(|at| at.parse::<u64>().ok()).expect("a message has its time");
-            self.count("clock back", (now < last).into());
-            last = now;
+        let patterns = text.split(|&byte| byte == b'\n').filter(|line| line.starts_with(b"pattern="));
+        let (mut last, rules) = (0, patterns.count());
+        let end = trace::run_watched(text, &mut out, |monitor, message, result| {
+            self.count("clock back", (message.timestamp_us < last).into());
+            last = message.timestamp_us;
             self.count("rule overwritten", (monitor.rule_count() < rules).into());
             self.count("messages", 1);
             self.count_alerts(result);
+            self.count_choice(monitor, message);
             before = self.count_places(before, monitor, result);
         });
         self.count("traces", 1);
@@ -66,6 +72,31 @@ impl Met {
             self.count("hash in an alert", (alert.payload_hash.0 != [0; 32]).into());
         }
         self.count("four alerts at once", (result.alert_count == 4).into());
+    }
+
+    /// Counts a message for which the port would choose another rule: by the first that one of the matchers takes.
+    pub fn count_choice(&mut self, monitor: &MqttMonitor, message: &MqttMessage) {
+        let topic = message.topic_bytes();
+        let kind = match message.packet_type {
+            MqttPacketType::Publish if opened::contains_invalid_publish_char(topic) => return,
+            MqttPacketType::Publish => 0,
+            MqttPacketType::Subscribe => 1,
+            MqttPacketType::Unsubscribe => 2,
+            _ => return,
+        };
+        if !matcher::STANDARD || topic.is_empty() {
+            return;
+        }
+        let rules = (0..monitor.rule_count()).filter_map(|place| state::rule(monitor, place));
+        let mut taken = rules.map(|rule| {
+            let pattern = &rule.pattern[..rule.pattern_len as usize];
+            (opened::topic_matches(topic, pattern), matcher::matches(topic, pattern))
+        });
+        match taken.find(|&(port, standard)| port || standard) {
+            Some((true, false)) if topic[0] == b'$' => self.count(DOLLAR_NAMES[kind], 1),
+            Some((false, true)) if topic.ends_with(b"/") => self.count(EMPTY_LEVELS[kind], 1),
+            _ => {}
+        }
     }
 
     /// Counts the places that went from one holder to another.

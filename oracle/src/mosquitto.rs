@@ -1,6 +1,7 @@
 //! The standard matcher and the tests of filters and names against a second opinion that nobody here wrote: Debian's
-//! libmosquitto, which keeps MQTT 3.1.1. Only what both define is asked. Where the two are known to differ it is said
-//! here, so that any other difference is a failure, and so is a known one that is never met.
+//! libmosquitto, which keeps MQTT 3.1.1. Only what both define is asked. Of matching no difference is known; where the
+//! tests of filters are known to differ it is said here, so that any other difference is a failure, and so is a known one
+//! that is never met.
 
 use crate::hub;
 use crate::make::{LENGTHS, SIGNS, pattern, short, topic};
@@ -44,10 +45,14 @@ fn defined(filter: &CStr) -> bool {
     valid_filter(filter) && !REFUSED.iter().any(|(_, refuses)| refuses(filter.to_bytes()))
 }
 
-/// 4.7.2: a filter that begins with a wildcard takes no name that begins with a dollar sign. It is the known difference
-/// of the matcher: until change request C-15 ours takes such a name as any other.
-fn kept_apart(name: &[u8], filter: &[u8]) -> bool {
-    name[0] == b'$' && matches!(filter[0], b'+' | b'#')
+/// Whether 4.7.2 alone keeps the name from the filter: a filter that begins with a wildcard takes no name that begins with
+/// a dollar sign, and takes this one with a letter in its place.
+fn kept_apart(name: &CStr, filter: &CStr) -> bool {
+    let (name, first) = (name.to_bytes(), filter.to_bytes()[0]);
+    name[0] == b'$' && matches!(first, b'+' | b'#') && {
+        let letter = CString::new([b"d", &name[1..]].concat()).expect("a name has no zero byte");
+        matches(&letter, filter) == 1
+    }
 }
 
 /// Every comparison with libmosquitto, whose version is printed.
@@ -137,37 +142,30 @@ fn random_matching(classes: &mut Vec<Class>, seed: u64) {
     classes.push(matching.done());
 }
 
-/// A comparison of the matchers, with how many names were taken, and how often the answers were known to differ.
+/// A comparison of the matchers, with how many names were taken, and how many dollar names were kept apart.
 struct Matching {
     class: Class,
     taken: u64,
-    dollars: u64,
+    kept_apart: u64,
 }
 
 impl Matching {
     fn new(what: String) -> Matching {
-        Matching { class: Class::new(format!("standard_matches and libmosquitto, {what}")), taken: 0, dollars: 0 }
+        Matching { class: Class::new(format!("standard_matches and libmosquitto, {what}")), taken: 0, kept_apart: 0 }
     }
 
-    /// One name and one filter. Where they are kept apart libmosquitto must say no, and we what it says of the name
-    /// with a letter in place of the dollar sign; such a pair of answers is compared as one.
+    /// One name and one filter.
     fn compare(&mut self, name: &CStr, filter: &CStr) {
         let input = [name.to_bytes(), filter.to_bytes()];
-        let ours = hub::standard_matches(input[0], input[1]);
         let theirs = matches(name, filter);
         self.taken += (theirs == 1) as u64;
-        if !kept_apart(input[0], input[1]) {
-            return self.class.same(&input, ours, theirs);
-        }
-        let letter = CString::new([b"d", &input[0][1..]].concat()).expect("a name has no zero byte");
-        let as_any_other = matches(&letter, filter);
-        self.dollars += (as_any_other != theirs) as u64;
-        self.class.same(&input, (ours, theirs), (as_any_other, 0));
+        self.kept_apart += kept_apart(name, filter) as u64;
+        self.class.same(&input, hub::standard_matches(input[0], input[1]), theirs);
     }
 
     fn done(mut self) -> Class {
         self.class.seen("match", self.taken);
-        self.class.seen("known to differ, dollar names until C-15", self.dollars);
+        self.class.seen("dollar names kept apart", self.kept_apart);
         self.class
     }
 }

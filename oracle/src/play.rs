@@ -1,15 +1,15 @@
 //! One script through the Rust original: its text, with a look at the whole state behind each line, what the original
 //! says to it, and what happened on the way.
 
-use crate::answers::{Answer, Original, no_call_hands_out};
-use crate::met::{KINDS, Met, PLACES};
+use crate::answers::{Answer, NEW, NEW_DENY_DEFAULT, Original, no_call_hands_out};
+use crate::met::{KINDS, Met, PLACES, choices};
 use std::panic::{AssertUnwindSafe, catch_unwind};
 use vs_mqtt_monitor::{opened, state};
 
 /// Every public call of the monitor. `inspect_claimed` is `inspect` with claimed lengths, `counters` are three calls.
 const CALLS: [&str; 14] = [
-    "new",
-    "new_deny_default",
+    NEW,
+    NEW_DENY_DEFAULT,
     "add_rule",
     "remove_rule",
     "swap_rules",
@@ -88,7 +88,8 @@ const MORE: [&str; 20] = [
 /// What all scripts together must have met.
 pub fn all() -> impl Iterator<Item = &'static str> {
     let kinds = KINDS[1..].iter().copied();
-    CALLS.into_iter().chain(TYPES).chain(REFUSALS).chain(REASONS).chain(kinds).chain(PLACES).chain(MORE)
+    let calls = CALLS.into_iter().chain(TYPES).chain(REFUSALS).chain(REASONS);
+    calls.chain(kinds).chain(PLACES).chain(MORE).chain(choices())
 }
 
 /// A script on its way.
@@ -138,12 +139,12 @@ impl Play<'_> {
                     self.met.count(reason, 1);
                 }
             }
-            Answer::Inspected(result) => {
-                let (at, kind) = (words[1].parse().expect("a time"), words[3].parse::<usize>().expect("a type"));
-                self.met.count(TYPES[kind - 1], 1);
-                self.met.count("clock back", (at < self.last_at).into());
-                self.last_at = at;
+            Answer::Inspected(message, result) => {
+                self.met.count(TYPES[message.packet_type as usize - 1], 1);
+                self.met.count("clock back", (message.timestamp_us < self.last_at).into());
+                self.last_at = message.timestamp_us;
                 self.met.count_alerts(result);
+                self.met.count_choice(monitor, message);
                 self.met.count_places(holders, monitor, result);
                 self.met.count("id wrapped", (state::settings(monitor).3 < next_id).into());
                 self.met.count("inspected at its cap", (monitor.total_inspected() == u64::MAX).into());

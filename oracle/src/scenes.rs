@@ -37,6 +37,9 @@ pub const MAKERS: &[Maker] = &[
     ("small", small, &["end 0"]),
 ];
 
+/// The maker of names on which the port and MQTT 3.1.1 differ, in the three types that have rules.
+pub const APART: Maker = ("dollar names and empty last levels", apart, &["kind 3", "kind 4", "kind 5", "kind 10"]);
+
 /// The maker for the original's own TimestampValidator.
 pub const CLOCK: Maker = ("the original's own verdicts", real_clock, &["kind 1", "kind 5", "kind 8"]);
 
@@ -434,6 +437,26 @@ fn signs(scene: &mut Scene) {
         let kind = if scene.random.one_in(2) { SUBSCRIBE } else { 1 + (turn % 15) as u8 };
         let (topic, size) = (scene.random.pick(&topics), scene.size());
         scene.message(kind, turn * 100_000, topic, size, b"");
+    }
+}
+
+/// Few rules, so that one that a matcher does not take shows, and names that begin or end in every way.
+fn apart(scene: &mut Scene) {
+    let patterns: [&[u8]; 12] =
+        [b"#", b"+", b"+/#", b"+/+", b"+/+/#", b"+/a", b"a/+", b"/+", b"/#", b"$SYS/+", b"$SYS/#", b"$SYS/+/+"];
+    let rules: Vec<Rule> = (0..1 + scene.random.below(4))
+        .map(|_| {
+            let (pattern, rate) = (scene.random.pick(&patterns), scene.random.pick(&[0, 1, 2]));
+            Rule { block: scene.random.one_in(2), qos: scene.random.pick(&POLICIES), ..allow(pattern, rate) }
+        })
+        .collect();
+    scene.opening(2, &rules);
+    for turn in 0..60 {
+        let first = scene.random.pick(&["$SYS", "$SYS", "$", "$+", "a", "a", "+", "a$", ""]);
+        let last = scene.random.pick(&["", "/", "/a", "/a", "//", "/$a", "/+", "/a/", "/a/b", "/#", "/\0"]);
+        let kind = scene.random.pick(&[PUBLISH, SUBSCRIBE, UNSUBSCRIBE]);
+        let (size, payload) = (scene.size(), scene.payload());
+        scene.message(kind, turn * 10_000, format!("{first}{last}").as_bytes(), size, &payload);
     }
 }
 

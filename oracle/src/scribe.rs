@@ -2,17 +2,18 @@
 //! that it can aim at the state: at the end of a bucket or a window, at a tracker's threshold, at a full table. What
 //! the scripts then really met is counted by the comparison, and `MAKERS` names what each maker must have met.
 
-use crate::answers::hex;
+use crate::answers::{NEW, NEW_DENY_DEFAULT, hex};
 use crate::make::{LIKE_NOBODY, pattern};
 use crate::met::Met;
 use crate::play::Play;
 use crate::scenes::{Pairs, reblocked};
 use crate::tally::Random;
-use vs_mqtt_monitor::state;
+use vs_mqtt_monitor::{MqttMonitor, state};
 
 const CONNECT: u8 = 1;
 const PUBLISH: u8 = 3;
 const SUBSCRIBE: u8 = 8;
+const UNSUBSCRIBE: u8 = 10;
 const POLICIES: [&str; 8] = ["any", "any", "min0", "min1", "min2", "only0", "only1", "only2"];
 
 /// Calls of a script, beside those that fill its tables.
@@ -22,7 +23,7 @@ const TURNS: usize = 50;
 pub type Maker = (&'static str, fn(&mut Scribe), &'static [&'static str]);
 
 pub const MAKERS: &[Maker] = &[
-    ("every call", every_call, &["new", "new_deny_default", "reset_state", "counters", "pattern overwritten"]),
+    ("every call", every_call, &[NEW, NEW_DENY_DEFAULT, "reset_state", "counters", "pattern overwritten"]),
     ("tables of rules", rules, &["32 rules", "add_rule refused 6", "add_rule refused 9", "rules shadowed"]),
     ("buckets", buckets, &["32 buckets", "bucket replaced", "bucket expired", "bucket removed", "kind 5"]),
     ("clients", clients, &["16 clients", "client replaced", "kind 1", "window of 16"]),
@@ -53,11 +54,8 @@ pub fn make<'a>(maker: &Maker, seed: u64, pairs: &'a Pairs, met: &'a mut Met) ->
         good: 15,
     };
     scribe.now = scribe.random.pick(&[0, 0, 1_000_000, 10_000_000_000, u64::MAX - 1_000_000_000]);
-    if scribe.random.one_in(4) {
-        scribe.line("new_deny_default".into());
-    } else {
-        scribe.line("new".into());
-    }
+    let first = if scribe.random.one_in(4) { NEW_DENY_DEFAULT } else { NEW };
+    scribe.line(first.into());
     maker.1(&mut scribe);
     scribe.play
 }
@@ -245,7 +243,8 @@ fn connect(scribe: &mut Scribe) {
 /// A message of any type; topics and patterns stand for names.
 fn any_type(scribe: &mut Scribe) {
     scribe.step();
-    let kind = if scribe.random.one_in(3) { SUBSCRIBE } else { 1 + scribe.random.below(15) as u8 };
+    let any = 1 + scribe.random.below(15) as u8;
+    let kind = scribe.random.pick(&[SUBSCRIBE, SUBSCRIBE, UNSUBSCRIBE, any, any, any]);
     let name = if scribe.random.one_in(2) { scribe.topic() } else { scribe.any(|scribe| &scribe.patterns) };
     scribe.message(kind, &name);
 }
@@ -290,7 +289,7 @@ fn ask_counters(scribe: &mut Scribe) {
 
 /// A monitor anew, of either default.
 fn anew(scribe: &mut Scribe) {
-    let line = scribe.random.pick(&["new", "new_deny_default"]);
+    let line = scribe.random.pick(&[NEW, NEW_DENY_DEFAULT]);
     scribe.line(line.into());
 }
 
@@ -436,10 +435,10 @@ fn many_alerts(scribe: &mut Scribe) {
 
 /// Names with wildcards, dollar signs, zero bytes and empty levels, in every packet type.
 fn names(scribe: &mut Scribe) {
-    scribe.patterns = words(&["#", "+", "+/#", "$SYS/#", "$SYS/+", "$share/#", "/+", "a/#", "+/a"]);
+    scribe.patterns = words(&["#", "+", "+/#", "$SYS/#", "$SYS/+", "$share/#", "/+", "a/#", "a/+", "+/a", "+/+"]);
     scribe.topics = words(&[
-        "", "a", "/", "//", "a/", "/a", "a/a", "#", "+", "+/#", "+/+", "a/#", "+a", "$", "$SYS", "$SYS/a", "$SYS/+",
-        "a\0b", "\0",
+        "", "a", "/", "//", "a/", "/a", "a/a", "#", "+", "+/#", "+/+", "a/#", "+a", "$", "$SYS", "$SYS/", "$SYS/a",
+        "$SYS/+", "a\0b", "\0",
     ]);
     scribe.topics.extend([31, 32, 33, 127, 128].map(|len| vec![b'a'; len]));
     scribe.turns(&[(10, any_type), (4, claimed), (2, add_rule), (1, remove_rule), (1, swap_rules)]);
@@ -465,9 +464,19 @@ fn some_place(scribe: &mut Scribe, places: usize) -> usize {
     scribe.random.below(most)
 }
 
+/// Mostly a place that is held, where there is one.
+fn held_place(scribe: &mut Scribe, places: usize, held: fn(&MqttMonitor, usize) -> bool) -> usize {
+    let monitor = &scribe.play.original.monitor;
+    let all: Vec<usize> = (0..places).filter(|&place| held(monitor, place)).collect();
+    if all.is_empty() || scribe.random.one_in(4) { some_place(scribe, places) } else { scribe.random.pick(&all) }
+}
+
 /// Something that no call leaves, which is taken away again or stays.
 fn spoil(scribe: &mut Scribe) {
-    let (rule, place) = (some_place(scribe, 32), some_place(scribe, 16));
+    let rule = held_place(scribe, 32, |monitor, place| place < monitor.rule_count());
+    let bucket = held_place(scribe, 32, |monitor, place| state::bucket(monitor, place).is_some());
+    let tracker = held_place(scribe, 16, |monitor, place| state::tracker(monitor, place).is_some());
+    let window = held_place(scribe, 16, |monitor, place| state::window(monitor, place).is_some());
     let count = scribe.play.original.monitor.rule_count();
     let line = match scribe.random.below(8) {
         0 => format!("rule_count {}", scribe.random.pick(&[count + 1, 31, 32, 33, 65_535])),
@@ -477,10 +486,10 @@ fn spoil(scribe: &mut Scribe) {
             let bad = scribe.random.pick(&["a+", "#/a", "a#", "++", "a\0", "+/+/+/+", ""]);
             format!("rule_pattern {rule} {}", arg(bad.as_bytes()))
         }
-        4 => format!("bucket_prefix {rule} {}", scribe.random.pick(&[31, 32, 33, 255])),
-        5 => format!("tracker_prefix {place} {}", scribe.random.pick(&[31, 32, 33, 255])),
-        6 => format!("window_count {place} {}", scribe.random.pick(&[15, 16, 17, 255])),
-        _ => format!("bucket_live {rule} {}", scribe.random.below(2)),
+        4 => format!("bucket_prefix {bucket} {}", scribe.random.pick(&[31, 32, 33, 255])),
+        5 => format!("tracker_prefix {tracker} {}", scribe.random.pick(&[31, 32, 33, 255])),
+        6 => format!("window_count {window} {}", scribe.random.pick(&[15, 16, 17, 255])),
+        _ => format!("bucket_live {bucket} {}", scribe.random.below(2)),
     };
     scribe.line(line);
 }
@@ -522,7 +531,7 @@ fn number_10(scribe: &mut Scribe) {
 fn set_record(scribe: &mut Scribe) {
     let (rule, place) = (some_place(scribe, 32), some_place(scribe, 16));
     let flag = scribe.random.below(2);
-    let line = match scribe.random.below(13) {
+    let line = match scribe.random.below(14) {
         0 => format!("tokens {rule} {}", scribe.random.pick(&[0, 1, 2, 65_534, 65_535])),
         1 => format!("bucket_live {rule} {flag}"),
         2 => format!("bucket_prefix {rule} {}", scribe.random.pick(&[0, 1, 2, 31, 32])),

@@ -1,6 +1,6 @@
 //! The Rust driver of a whole trace: it reads the text of document 01's section "The trace", feeds the original
 //! monitor and writes the answer. It is what `hub_trace` is compared with, byte by byte, and what its speed is
-//! measured against. Built over either variant of the original: over `clock` the verdicts of the text are ignored.
+//! measured against. Built over each variant of the original: over `clock` the verdicts of the text are ignored.
 
 use vs_mqtt_monitor::{MqttInspectResult, MqttMonitor, QosPolicy, TopicAction};
 use vs_types_embedded::{MqttMessage, MqttPacketType, MqttQoS, opened};
@@ -17,11 +17,15 @@ pub struct End {
 
 /// Runs a trace and appends its answer to `out`.
 pub fn run(text: &[u8], out: &mut Vec<u8>) -> End {
-    run_watched(text, out, |_, _| {})
+    run_watched(text, out, |_, _, _| {})
 }
 
-/// The same; `watch` sees the monitor and the result after each message.
-pub fn run_watched(text: &[u8], out: &mut Vec<u8>, mut watch: impl FnMut(&MqttMonitor, &MqttInspectResult)) -> End {
+/// The same; `watch` sees the monitor, the message and the result after each message.
+pub fn run_watched(
+    text: &[u8],
+    out: &mut Vec<u8>,
+    mut watch: impl FnMut(&MqttMonitor, &MqttMessage, &MqttInspectResult),
+) -> End {
     let mut reader = Reader { text, at: 0, line: 0 };
     let mut monitor = MqttMonitor::new();
     let number = match messages(&mut reader, &mut monitor, out, &mut watch) {
@@ -40,7 +44,7 @@ fn messages(
     reader: &mut Reader,
     monitor: &mut MqttMonitor,
     out: &mut Vec<u8>,
-    watch: &mut impl FnMut(&MqttMonitor, &MqttInspectResult),
+    watch: &mut impl FnMut(&MqttMonitor, &MqttMessage, &MqttInspectResult),
 ) -> Result<(), u32> {
     if reader.text.len() > LONGEST {
         return Err(27);
@@ -56,7 +60,7 @@ fn messages(
         read_message(reader, &mut message)?;
         let result = monitor.inspect(&message);
         put_record(out, monitor.total_inspected(), &result);
-        watch(monitor, &result);
+        watch(monitor, &message, &result);
     }
     Ok(())
 }

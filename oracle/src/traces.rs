@@ -1,5 +1,6 @@
 //! traces [--seed N]: whole traces through the archive's `hub_trace` against the Rust driver over the original
-//! monitor, every byte of every answer. What the traces met is counted; anything that was never met is a failure.
+//! monitor, every byte of every answer. What the traces met is counted; anything that was never met is a failure. Over
+//! an original that chooses rules by MQTT 3.1.1 it is `hub_trace_standard` that is compared.
 
 mod damage;
 mod hub;
@@ -10,9 +11,14 @@ mod tally;
 
 use hub::HubTrace;
 use met::Met;
-use scenes::{CLOCK, MAKERS, Maker, Pairs};
+use scenes::{APART, CLOCK, MAKERS, Maker, Pairs};
 use tally::{Class, Random};
 use trace::End;
+use vs_mqtt_monitor::matcher::STANDARD;
+
+/// The two exports that are compared.
+const HUB_TRACE: fn(&[u8], &mut [u8]) -> HubTrace = if STANDARD { hub::trace_standard } else { hub::trace };
+const HUB_TRACE_LENGTH: fn(&[u8]) -> HubTrace = if STANDARD { hub::trace_standard_length } else { hub::trace_length };
 
 /// Traces of each maker, for each seed.
 const TURNS: usize = 100;
@@ -33,7 +39,7 @@ fn main() {
     run.example();
     for seed in seeds {
         let mut random = Random(seed);
-        for maker in MAKERS {
+        for maker in MAKERS.iter().chain([&APART]) {
             run.scene(maker, seed, &mut random, &pairs);
         }
         run.clock(seed, &mut random, &pairs);
@@ -66,7 +72,6 @@ impl Run {
     /// The traces of one maker, then a damaged copy of each.
     fn scene(&mut self, maker: &Maker, seed: u64, random: &mut Random, pairs: &Pairs) {
         let mut whole = Class::new(format!("{}, seed {seed}", maker.0));
-        let mut damaged = Class::new(format!("damaged: {}, seed {seed}", maker.0));
         let before: Vec<u64> = maker.2.iter().map(|what| self.met.times(what)).collect();
         let mut texts = Vec::new();
         for _ in 0..TURNS {
@@ -78,10 +83,12 @@ impl Run {
         for (what, before) in maker.2.iter().zip(before) {
             whole.seen(what, self.met.times(what) - before);
         }
+        self.classes.push(whole);
+        let mut damaged = Class::new(format!("damaged: {}, seed {seed}", maker.0));
         for text in texts {
             self.compare(&mut damaged, &damage::one(random, &text), 0);
         }
-        self.classes.extend([whole, damaged]);
+        self.classes.push(damaged);
     }
 
     /// Traces whose verdicts are those of the original's own TimestampValidator: the port, which reads them, against
@@ -132,13 +139,13 @@ fn answered(text: &[u8], end: End, expected: &[u8], spare: usize) -> Result<u64,
     let length = expected.len();
     let wanted = HubTrace { number: end.number, line: end.line.into(), length };
     let mut room = vec![0xa5; length + spare];
-    if hub::trace(text, &mut room) != wanted || room[..length] != *expected {
+    if HUB_TRACE(text, &mut room) != wanted || room[..length] != *expected {
         return Err(first_difference(text, wanted, expected));
     }
     if room[length..].iter().any(|&byte| byte != 0xa5) {
         return Err("bytes behind the answer were changed".into());
     }
-    let counted = hub::trace_length(text);
+    let counted = HUB_TRACE_LENGTH(text);
     if counted != wanted {
         return Err(format!("its length: hub {counted:?}, expected {wanted:?}"));
     }
@@ -146,7 +153,7 @@ fn answered(text: &[u8], end: End, expected: &[u8], spare: usize) -> Result<u64,
     // The longest room that is too short, half of the length, and none.
     for short in [length - 1, length / 2, 0] {
         let mut room = vec![0xa5; length];
-        let answer = hub::trace(text, &mut room[..short]);
+        let answer = HUB_TRACE(text, &mut room[..short]);
         if answer != (HubTrace { number: 28, line: 0, length: 0 }) || room.iter().any(|&byte| byte != 0xa5) {
             return Err(format!("with room for {short} of {length} bytes: hub {answer:?}, expected 28, 0, 0"));
         }
@@ -158,7 +165,7 @@ fn answered(text: &[u8], end: End, expected: &[u8], spare: usize) -> Result<u64,
 /// Both ends, and the first line that differs; the port has room enough to say all.
 fn first_difference(text: &[u8], wanted: HubTrace, expected: &[u8]) -> String {
     let mut room = vec![0xa5; 1 << 20];
-    let answer = hub::trace(text, &mut room);
+    let answer = HUB_TRACE(text, &mut room);
     let hub = room[..answer.length].split(|&byte| byte == b'\n');
     let (number, (hub, rust)) = (1..)
         .zip(hub.zip(expected.split(|&byte| byte == b'\n')))
