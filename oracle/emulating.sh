@@ -9,8 +9,10 @@ ready() {
     tools=${kit%/docs/*}/on/$(uname -m)/toolchain
     for crate in loops hub; do
         rt staticlib "$crate" >&2
-        "$tools/bin/clang" --target=x86_64-unknown-linux-gnu -O2 -fPIC -I include -D"over_$crate" -c -o "$room/$crate.o" oracle/emulated.c
-        "$tools/bin/ld.lld" -pie -dynamic-linker "$tools/lib/ld-linux-x86-64.so.2" -o "$room/$crate" "$tools/lib/Scrt1.o" "$tools/lib/crti.o" \
+        # Of the headers only the compiler's own are asked for, which any machine has.
+        "$tools/bin/clang" --target=x86_64-unknown-linux-gnu -O2 -fPIC -ffreestanding -nostdinc -isystem "$(gcc -print-file-name=include)" -I include \
+            -D"over_$crate" -c -o "$room/$crate.o" oracle/emulated.c
+        "$tools/bin/ld.lld" -pie -z now -dynamic-linker "$tools/lib/ld-linux-x86-64.so.2" -o "$room/$crate" "$tools/lib/Scrt1.o" "$tools/lib/crti.o" \
             "$tools/lib/crtbeginS.o" "$room/$crate.o" "target/staticlib/lib$crate.a" "$tools/lib/libc.so.6" "$tools/lib/libc_nonshared.a" "$tools/lib/libgcc.a" \
             "$tools/lib/libgcc_s.so.1" "$tools/lib/crtendS.o" "$tools/lib/crtn.o"
     done

@@ -4,6 +4,7 @@
 mod hub;
 mod stack;
 
+use hub::HubTrace;
 use std::hint::black_box;
 
 /// Room for any answer.
@@ -34,15 +35,26 @@ fn main() {
     let pairs = |call: fn(&[u8], &[u8])| strings.iter().for_each(|a| strings.iter().for_each(|b| call(a, b)));
     row("hub_topic_matches", || pairs(|topic, pattern| _ = black_box(hub::topic_matches(topic, pattern))));
     row("hub_standard_matches", || pairs(|name, pattern| _ = black_box(hub::standard_matches(name, pattern))));
+    trace_rows("hub_trace", hub::trace, hub::trace_length, &traces);
+    trace_rows("hub_trace_standard", hub::trace_standard, hub::trace_standard_length, &traces);
+}
+
+/// The rows of a matcher's two calls.
+fn trace_rows(
+    name: &str,
+    trace: fn(&[u8], &mut [u8]) -> HubTrace,
+    trace_length: fn(&[u8]) -> HubTrace,
+    traces: &[Vec<u8>],
+) {
     let mut room = vec![0; ENOUGH];
-    row("hub_trace, room for any answer", || traces.iter().for_each(|text| _ = hub::trace(text, &mut room)));
-    row("hub_trace, less room", || {
-        for text in &traces {
-            let length = hub::trace_length(text).length;
-            black_box([hub::trace(text, &mut room[..length]), hub::trace(text, &mut room[..length - 1])]);
+    row(&format!("{name}, room for any answer"), || traces.iter().for_each(|text| _ = trace(text, &mut room)));
+    row(&format!("{name}, less room"), || {
+        for text in traces {
+            let length = trace_length(text).length;
+            black_box([trace(text, &mut room[..length]), trace(text, &mut room[..length - 1])]);
         }
     });
-    row("hub_trace_length", || traces.iter().for_each(|text| _ = black_box(hub::trace_length(text))));
+    row(&format!("{name}_length"), || traces.iter().for_each(|text| _ = black_box(trace_length(text))));
 }
 
 /// Patterns of every kind, and long strings of levels with and without wildcards.

@@ -170,7 +170,8 @@ fn shrink(program: &str, lines: &[String]) -> Vec<String> {
 
 /// Writes a script beside this program, and says where, what it is and what is wrong with the answer.
 fn saved(program: &str, lines: &[String], number: usize) -> String {
-    let path = std::env::current_exe().unwrap().with_file_name(format!("differs-{number}.script"));
+    let matcher = if STANDARD { "standard-" } else { "" };
+    let path = std::env::current_exe().unwrap().with_file_name(format!("differs-{matcher}{number}.script"));
     std::fs::write(&path, lines.iter().map(|line| format!("{line}\nall\n")).collect::<String>()).unwrap();
     let short = if lines.len() <= 12 { format!("\n        {}", lines.join("\n        ")) } else { String::new() };
     format!("{} of {} lines: {}{short}", path.display(), lines.len(), differs(program, lines).unwrap_or_default())

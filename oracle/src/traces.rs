@@ -204,7 +204,8 @@ fn shrink(text: &[u8], spare: usize) -> Vec<u8> {
 
 /// Writes a text beside this program, and says where and what is wrong with its answer.
 fn saved(text: &[u8], spare: usize, number: usize) -> String {
-    let path = std::env::current_exe().unwrap().with_file_name(format!("differs-{number}.trace"));
+    let matcher = if STANDARD { "standard-" } else { "" };
+    let path = std::env::current_exe().unwrap().with_file_name(format!("differs-{matcher}{number}.trace"));
     std::fs::write(&path, text).unwrap();
     format!("{} of {} bytes: {}", path.display(), text.len(), differs(text, spare).unwrap_or_default())
 }
