@@ -1,6 +1,6 @@
 -- The standard matcher's three answers: outside its domain 9, inside it the byte matcher's answer, which is the standard's rule level by level.
 -- Assumes nothing.
-use mathlib.Core.Bool.{Bool, true, false, cond, and-false}
+use mathlib.Core.Bool.{Bool, true, cond, and-false}
 use mathlib.Core.List.{List, [], _∷_}
 use mathlib.Core.Path.{_≡_, refl}
 use Prim.Native.Nat.{ℕ}
