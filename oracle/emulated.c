@@ -3,7 +3,9 @@
  * else, tell what that work takes. Built with over_loops for the archive of loops, else for that of hub.
  *   loop RULES TOPICS MESSAGES    inspections in a loop, as oracle/src/benchloop.rs makes them
  *   trace FILE TIMES              a trace so many times, with 12 bytes of room for each byte of text
- *   stack FILE                    the deepest stack of a trace, in bytes below its caller */
+ *   stack FILE                    the deepest stack of the calls of traces, in bytes below their caller: with room for
+ *                                 the answer, with just enough, with a byte less, and the length, by each matcher that
+ *                                 the archive has */
 #include <stdint.h>
 
 typedef __SIZE_TYPE__ size_t;
@@ -36,17 +38,30 @@ int main(int argc, char **argv) {
 static uint8_t text[HUB_TRACE_LONGEST + 1], answer[HUB_TRACE_ENOUGH];
 static size_t length;
 
-__attribute__((noinline)) static struct HubTrace trace(void) {
-    return hub_trace(text, length, answer, 12 * length < 109 ? 109 : 12 * length);
+/* Archives from before request C-15 have one matcher. */
+#pragma weak hub_trace_standard
+#pragma weak hub_trace_standard_length
+
+static size_t ample(void) { return 12 * length < 109 ? 109 : 12 * length; }
+
+static void calls(struct HubTrace (*trace)(const uint8_t *, size_t, uint8_t *, size_t),
+                  struct HubTrace (*trace_length)(const uint8_t *, size_t)) {
+    if (!trace)
+        return;
+    const size_t exact = trace_length(text, length).length;
+    trace(text, length, answer, ample());
+    trace(text, length, answer, exact);
+    trace(text, length, answer, exact - 1);
 }
 
-/* The stack below this frame is painted, the call made, and the paint that is left counted. */
+/* The stack below this frame is painted, the calls made, and the paint that is left counted. */
 __attribute__((noinline)) static size_t depth(void) {
     enum { ROOM = 1 << 17, ZONE = 256 };
     volatile uint8_t *const top = (volatile uint8_t *)__builtin_frame_address(0) - ZONE;
     for (size_t k = 1; k <= ROOM; k++)
         top[-(long)k] = 0xa5;
-    trace();
+    calls(hub_trace, hub_trace_length);
+    calls(hub_trace_standard, hub_trace_standard_length);
     size_t left = ROOM;
     while (left > 0 && top[-(long)left] == 0xa5)
         left--;
@@ -65,7 +80,7 @@ int main(int argc, char **argv) {
         return 0;
     }
     for (int times = atoi(argv[3]); times > 0; times--)
-        trace();
+        hub_trace(text, length, answer, ample());
     return 0;
 }
 #endif

@@ -2,18 +2,23 @@
 # that counts. bin/measure reads it, in the repository's folder, with $room a folder for the run.
 
 # ready: the archives, the programs over them, the plugin that counts, and the traces that we measure with. The traces are written by a host for this machine.
+# HUB_ARCHIVE, if set, is a folder with another libloops.a and libhub.a, as `rt staticlib` writes them, to count in place of ours.
 ready() {
+    if [ "$(uname -m)" = x86_64 ]; then
+        echo "measure: this machine is x86-64: 'bin/measure loop traces stack' count there without an emulator" >&2
+        exit 1
+    fi
     oracle/install qemu-user /usr/bin/qemu-x86_64
     gcc -O2 -Wall -Wextra -Werror -shared -fPIC -o "$room/emulator.so" oracle/emulator.c
     kit=$(rt doc)
     tools=${kit%/docs/*}/on/$(uname -m)/toolchain
     for crate in loops hub; do
-        rt staticlib "$crate" >&2
+        [ -n "${HUB_ARCHIVE-}" ] || rt staticlib "$crate" >&2
         # Of the headers only the compiler's own are asked for, which any machine has.
         "$tools/bin/clang" --target=x86_64-unknown-linux-gnu -O2 -fPIC -ffreestanding -nostdinc -isystem "$(gcc -print-file-name=include)" -I include \
             -D"over_$crate" -c -o "$room/$crate.o" oracle/emulated.c
         "$tools/bin/ld.lld" -pie -z now -dynamic-linker "$tools/lib/ld-linux-x86-64.so.2" -o "$room/$crate" "$tools/lib/Scrt1.o" "$tools/lib/crti.o" \
-            "$tools/lib/crtbeginS.o" "$room/$crate.o" "target/staticlib/lib$crate.a" "$tools/lib/libc.so.6" "$tools/lib/libc_nonshared.a" "$tools/lib/libgcc.a" \
+            "$tools/lib/crtbeginS.o" "$room/$crate.o" "${HUB_ARCHIVE:-target/staticlib}/lib$crate.a" "$tools/lib/libc.so.6" "$tools/lib/libc_nonshared.a" "$tools/lib/libgcc.a" \
             "$tools/lib/libgcc_s.so.1" "$tools/lib/crtendS.o" "$tools/lib/crtn.o"
     done
     oracle/build
