@@ -2,8 +2,11 @@
 -- matcher, then any calls, in any order and with any arguments, refused or not. An inspection takes the matcher that its state chose.
 -- Assumes nothing.
 use mathlib.Core.List.{List}
-use Prim.Native.Nat.{ℕ}
+use Prim.Native.Nat.{ℕ, _<_}
+use lib.ListN.{getD}
+use Rattle.topics.specs.Encoding.{Sendable}
 use Rattle.topics.specs.declared.matching.Matching.{Matching}
+use Rattle.tables.specs.Rules.{patternOf, noRule}
 use Rattle.tables.specs.declared.rules.QosPolicy.{QosPolicy}
 use Rattle.tables.specs.declared.rules.TopicAction.{TopicAction}
 use Rattle.monitor.specs.Calls.{fresh, addRule, removeRule, swapRules, clearRules, setStorm, removeBucket, removeTracker, resetState}
@@ -38,3 +41,7 @@ SoundAlways = (m : MqttMonitor) → Reached m → Sound m
 -- and so far without a load, each is the monitor's own making too (specs/Unbroken.antt)
 abbrev pub UnbrokenAlways : Type 0
 UnbrokenAlways = (m : MqttMonitor) → Reached m → Unbroken m
+
+-- and no rule that one holds has a pattern that no client can send (request C-16)
+abbrev pub SendableAlways : Type 0
+SendableAlways = (m : MqttMonitor) → Reached m → (i : ℕ) → i < m .«rule_count» → Sendable (patternOf (getD (m .rules) i noRule))

@@ -13,6 +13,8 @@ use Rattle.hub.proofs.hashing.hub_compute_payload_hash as hashing-hub-compute-p
 use Rattle.hub.proofs.hashing.hub_compute_payload_hash.Reads as hashing-hub-compute-payload-hash-reads
 use Rattle.hub.proofs.matching.hub_validate_mqtt_wildcard as matching-hub-validate-mqtt-wildcard
 use Rattle.hub.proofs.matching.hub_validate_mqtt_wildcard.Reads as matching-hub-validate-mqtt-wildcard-reads
+use Rattle.hub.proofs.matching.hub_is_utf8 as matching-hub-is-utf8
+use Rattle.hub.proofs.matching.hub_is_utf8.Reads as matching-hub-is-utf8-reads
 use Rattle.hub.proofs.matching.hub_pattern_refusal as matching-hub-pattern-refusal
 use Rattle.hub.proofs.matching.hub_pattern_refusal.Reads as matching-hub-pattern-refusal-reads
 use Rattle.hub.proofs.matching.hub_topic_matches as matching-hub-topic-matches
@@ -130,3 +132,9 @@ one-tracing-hub-trace-standard-length κs a x y e f p q = p ∙ sym q
 
 pub any-tracing-hub-trace-standard-length : Any tracing-hub-trace-standard-length.ended tracing-hub-trace-standard-length-reads.Asked
 any-tracing-hub-trace-standard-length κs a = tt
+
+pub one-matching-hub-is-utf8 : One matching-hub-is-utf8.ended matching-hub-is-utf8-reads.Post
+one-matching-hub-is-utf8 κs a x y e f p q = p ∙ sym q
+
+pub any-matching-hub-is-utf8 : Any matching-hub-is-utf8.ended matching-hub-is-utf8-reads.Asked
+any-matching-hub-is-utf8 κs a = tt

@@ -34,6 +34,8 @@ use Rattle.topics.proofs.matching.matches_with as matching-matches-with
 use Rattle.topics.proofs.matching.matches_with.Reads as matching-matches-with-reads
 use Rattle.topics.proofs.matching.matches_by as matching-matches-by
 use Rattle.topics.proofs.matching.matches_by.Reads as matching-matches-by-reads
+use Rattle.topics.proofs.utf8.is_utf8 as utf8-is-utf8
+use Rattle.topics.proofs.utf8.is_utf8.Reads as utf8-is-utf8-reads
 use Rattle.theorems.specs.One.{Any, One}
 
 pub one-hashes-wrapping-mul32 : One hashes-wrapping-mul32.ended hashes-wrapping-mul32-reads.Post
@@ -137,3 +139,9 @@ one-matching-matches-by κs a x y e f p q = p ∙ sym q
 
 pub any-matching-matches-by : Any matching-matches-by.ended matching-matches-by-reads.Asked
 any-matching-matches-by κs a = tt
+
+pub one-utf8-is-utf8 : One utf8-is-utf8.ended utf8-is-utf8-reads.Post
+one-utf8-is-utf8 κs a x y e f p q = p ∙ sym q
+
+pub any-utf8-is-utf8 : Any utf8-is-utf8.ended utf8-is-utf8-reads.Asked
+any-utf8-is-utf8 κs a = tt

@@ -1,11 +1,12 @@
 -- All that we claim, gathered from the files that prove it. Assumes nothing.
 use Rattle.topics.proofs.matching.Difference.{port-differs}
 use Rattle.topics.proofs.matching.Meaning.{meaning}
+use Rattle.topics.proofs.utf8.Decoded.{exactly}
 use Rattle.lines.proofs.Round.{round}
 use Rattle.monitor.proofs.Chosen.{chosen}
 use Rattle.monitor.proofs.Denied.{denied-by-kind}
 use Rattle.monitor.proofs.Four.{four-at-most, none-dropped}
-use Rattle.monitor.proofs.Reached.{sound-always}
+use Rattle.monitor.proofs.Reached.{sound-always, sendable-always}
 use Rattle.monitor.proofs.Total.{total-is-sum}
 use Rattle.monitor.proofs.Unbroken.{unbroken-always}
 use Rattle.trace.proofs.AsRun.{same-read}
@@ -37,12 +38,14 @@ claims =
       chosen = chosen;
       sound = sound-always;
       unbroken = unbroken-always;
+      sendable = sendable-always;
       denied = denied-by-kind;
       four = four-at-most;
       none-dropped = none-dropped;
       total = total-is-sum;
       meaning = meaning;
       difference = port-differs;
+      utf8 = exactly;
       round = round;
       corners = corners;
       shut-out = shut-out;

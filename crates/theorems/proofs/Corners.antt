@@ -5,6 +5,7 @@ use Rattle.topics.specs.Hashes.{fnv1a, djb2, suffixHash, clientHashes}
 use Rattle.topics.specs.Levels.{firstLevel, restLevels}
 use Rattle.topics.specs.Matching.{matchLevels, fromSlash, takesNone, takesEnd, matchBytes, standardRule, standardMatches}
 use Rattle.topics.specs.Patterns.{wellPlaced, patternRefusal}
+use Rattle.topics.specs.Utf8.{begun, taken, isUtf8}
 use Rattle.tables.specs.Buckets.{refilled, spend, isExpired, holdsBucket, newcomer, decide}
 use Rattle.tables.specs.Identity.{prefixOf, idOf, isOf}
 use Rattle.tables.specs.Scan.{find, leastOf, seat}
@@ -14,7 +15,7 @@ use Rattle.theorems.specs.Corners.{Corners, allowedAt, deniedAt, alertsO
 
 pub corners : Corners
 unfolding matchBytes fromSlash takesNone takesEnd matchLevels firstLevel restLevels same has standardRule standardMatches wellPlaced countOf
-    patternRefusal fnv1a djb2 suffixHash clientHashes prefixOf idOf isOf find leastOf seat refilled spend isExpired holdsBucket newcomer decide
+    patternRefusal isUtf8 taken begun fnv1a djb2 suffixHash clientHashes prefixOf idOf isOf find leastOf seat refilled spend isExpired holdsBucket newcomer decide
     recorded countFrom inWindow holdsClient connect meanAfter isAnomaly fed holdsTracker feed allowedAt deniedAt alertsOf
 corners =
     record {

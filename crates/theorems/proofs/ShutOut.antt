@@ -12,6 +12,7 @@ use Rattle.topics.specs.Hashes.{fnv1a, djb2, suffixHash}
 use Rattle.topics.specs.Levels.{firstLevel, restLevels}
 use Rattle.topics.specs.Matching.{matchLevels, fromSlash, takesNone, takesEnd, matchBytes, standardRule, portMatches, standardMatches}
 use Rattle.topics.specs.Patterns.{wellPlaced, patternRefusal}
+use Rattle.topics.specs.Utf8.{begun, taken, isUtf8}
 use Rattle.topics.specs.declared.matching.Matching.{Matching}
 use Rattle.topics.specs.declared.matching.StandardMatch.{StandardMatch}
 use Rattle.topics.specs.declared.matching.StandardMatch.the-variants.{Yes, No, OutsideDomain}
@@ -70,7 +71,7 @@ record Facts : Type 0 where
   quiet : shipped (hub 2) message .result .«alert_count» ≡ 0
 
 facts : Facts
-unfolding matchBytes fromSlash takesNone takesEnd firstLevel restLevels same has wellPlaced countOf patternRefusal fnv1a djb2 suffixHash prefixOf idOf
+unfolding matchBytes fromSlash takesNone takesEnd firstLevel restLevels same has wellPlaced countOf patternRefusal isUtf8 taken begun fnv1a djb2 suffixHash prefixOf idOf
     isOf find leastOf refilled spend isExpired holdsBucket newcomer decide qosOk ruleFine equalRule firstRule covered shadowedAfter severityOf hashOf
     kindsOf raise raiseAll fresh rulePlan addRule rulingOf gateAfter gateOf applied inspectRefusal inspectWith seenOf spentOf fedOf denialOf planFrom
     planOf every wellFormed firstRate rateOf reaches hub publish isAmong arrived
@@ -154,7 +155,7 @@ record Replies : Type 0 where
   no-standard : isYes (standardMatches (bytes "b") (bytes "a")) ≡ false
 
 replies : Replies
-unfolding matchBytes fromSlash takesNone takesEnd firstLevel restLevels same has wellPlaced countOf patternRefusal matchLevels standardRule standardMatches
+unfolding matchBytes fromSlash takesNone takesEnd firstLevel restLevels same has wellPlaced countOf patternRefusal isUtf8 taken begun matchLevels standardRule standardMatches
 replies = record { yes = refl; no = refl; yes-standard = refl; no-standard = refl }
 
 one-reply : (g : Matcher) → ((t p : List ℕ) → g t p ≡ portMatches t p) → (b : Bool) → ¬ ((t p : List ℕ) → g t p ≡ b)
@@ -184,7 +185,7 @@ count (Done n) = n
 count (Refused n) = 0
 
 shadows : (validateRules (hub 2) ≡ Done 0) × (validateRules shadowed ≡ Done 1)
-unfolding matchBytes fromSlash takesNone takesEnd firstLevel restLevels same has wellPlaced countOf patternRefusal fnv1a djb2 suffixHash prefixOf idOf
+unfolding matchBytes fromSlash takesNone takesEnd firstLevel restLevels same has wellPlaced countOf patternRefusal isUtf8 taken begun fnv1a djb2 suffixHash prefixOf idOf
     isOf find leastOf refilled spend isExpired holdsBucket newcomer decide qosOk ruleFine equalRule firstRule covered shadowedAfter severityOf hashOf
     kindsOf raise raiseAll fresh rulePlan addRule rulingOf gateAfter gateOf applied inspectRefusal inspectWith seenOf spentOf fedOf denialOf planFrom
     planOf every wellFormed firstRate rateOf reaches hub publish validateRules

@@ -8,6 +8,7 @@ use Rattle.topics.specs.Hashes.{fnv1a, djb2, suffixHash}
 use Rattle.topics.specs.Levels.{firstLevel, restLevels}
 use Rattle.topics.specs.Matching.{fromSlash, takesNone, takesEnd, matchBytes}
 use Rattle.topics.specs.Patterns.{wellPlaced, patternRefusal}
+use Rattle.topics.specs.Utf8.{begun, taken, isUtf8}
 use Rattle.lines.specs.Decimal.{decimal, decimalIn}
 use Rattle.lines.specs.Field.{keyed, lineAt, answered, numberField, wordField, hexField}
 use Rattle.lines.specs.ReadDecimal.{isDigit, digitsAfter, noSpareZero, decimalOf}
@@ -35,7 +36,7 @@ use Rattle.theorems.specs.Witness.{busyText, Witness}
 pub witness : Witness
 unfolding decimal decimalIn keyed lineAt answered numberField wordField hexField isDigit digitsAfter noSpareZero decimalOf isHex unhex hexRefusal
     begins wordIndex wordOf toByte findByte spanOf firstWord restWords matchBytes fromSlash takesNone takesEnd firstLevel restLevels same has wellPlaced
-    countOf patternRefusal fnv1a djb2 suffixHash prefixOf idOf isOf find leastOf refilled spend isExpired holdsBucket newcomer decide qosOk ruleFine equalRule
+    countOf patternRefusal isUtf8 taken begun fnv1a djb2 suffixHash prefixOf idOf isOf find leastOf refilled spend isExpired holdsBucket newcomer decide qosOk ruleFine equalRule
     firstRule covered shadowedAfter severityOf hashOf kindsOf raise raiseAll fresh rulePlan addRule rulingOf gateAfter gateOf applied inspectRefusal inspectWith
     seenOf spentOf fedOf denialOf planFrom planOf repliesBy every wellFormed openingOf opening1 opening2 ruleAt rule1 rule2 rule3 rule4 messageAt message1 message2
     message3 message4 message5 message6 message7 ruleInto rulesInto loadedFrom loaded messagesFrom messagesOf passedOf topicRate firstRate busyText

@@ -2,10 +2,11 @@
 -- `claims` in proofs/Claims.antt proves it, so a claim whose theorem is gone breaks the check. That every public call's promise leaves one answer is claimed function by function,
 -- in proofs/Answers*.antt; bin/answered holds that list to every public function.
 -- Assumes nothing.
+use Rattle.topics.specs.Encoding.{Utf8Exactly}
 use Rattle.topics.specs.Meaning.{Meaning, Difference}
 use Rattle.lines.specs.Round.{Round}
 use Rattle.monitor.specs.Chosen.{Chosen}
-use Rattle.monitor.specs.Reached.{SoundAlways, UnbrokenAlways}
+use Rattle.monitor.specs.Reached.{SoundAlways, UnbrokenAlways, SendableAlways}
 use Rattle.monitor.specs.Told.{DeniedByKind, AtMostFour, NoneDropped, TotalIsSum}
 use Rattle.trace.specs.AsRun.{ReadAlike}
 use Rattle.theorems.specs.Corners.{Corners}
@@ -45,6 +46,8 @@ pub record Claims : Type 0 where
   pub sound : SoundAlways
   -- and, without a load, of the monitor's own making: identities made of topics, rings that CONNECTs filled
   pub unbroken : UnbrokenAlways
+  -- and no rule that one holds has a pattern that no client can send: each is UTF-8 without U+0000
+  pub sendable : SendableAlways
   -- a message is denied exactly when kind 1, 2, 3, 5, 6, 9 or 10 was raised
   pub denied : DeniedByKind
   -- at most four alerts are raised
@@ -57,6 +60,8 @@ pub record Claims : Type 0 where
   pub meaning : Meaning
   -- and the port differs from the standard, section 4.7.2 included, exactly at a `+` on an empty last level and at a dollar name under a leading wildcard
   pub difference : Difference
+  -- STRINGS. Bytes pass the test of UTF-8 exactly where they are written, as RFC 3629 has it, for scalar values; and have a zero byte exactly where U+0000 is one of these
+  pub utf8 : Utf8Exactly
   -- TEXT. What is written is read back, and what is read was written so
   pub round : Round
   -- DOCUMENT 01's corners, P1 to P12

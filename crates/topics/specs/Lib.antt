@@ -1,3 +1,4 @@
+pub mod Encoding
 pub mod Hashes
 pub mod Levels
 pub mod Matching
@@ -5,3 +6,4 @@ pub mod Meaning
 pub mod Names
 pub mod Patterns
 pub mod Payload
+pub mod Utf8

@@ -1,4 +1,4 @@
--- Document 01, `add_rule`: which patterns a rule may have, in the order of its tests.
+-- Document 01, `add_rule`, and request C-16: which patterns a rule may have, in the order of its tests.
 -- Assumes nothing.
 use mathlib.Core.Bool.{Bool, true, cond, not, _&&_, _||_}
 use mathlib.Core.List.{List, [], _∷_}
@@ -9,6 +9,7 @@ use lib.ListN.{length}
 use Rattle.laws.specs.Lists.{none}
 use Rattle.slices.specs.Bytes.{has, countOf}
 use Rattle.topics.specs.Levels.{levels, isHash, isPlus}
+use Rattle.topics.specs.Utf8.{isUtf8}
 
 -- a level with no wildcard in it
 abbrev pub isPlain : List ℕ → Bool
@@ -23,11 +24,12 @@ wellPlaced (l ∷ ls) = (isPlain l || isPlus l || (isHash l && none ls)) && well
 unfoldable pub validWildcards : List ℕ → Bool
 validWildcards p = not (none p) && wellPlaced (levels p)
 
--- the number that refuses a pattern, 0 for none, in the document's order: 1 to 64 bytes, no zero byte, at most three `+`, wildcards well placed
+-- the number that refuses a pattern, 0 for none, in the document's order: 1 to 64 bytes, no zero byte, UTF-8 (request C-16), at most three `+`, wildcards well placed
 unfoldable pub patternRefusal : List ℕ → ℕ
 patternRefusal p =
     cond (none p || ltb 64 (length p)) 9
     (cond (has 0 p) 9
+    (cond (not (isUtf8 p)) 36
     (cond (ltb 3 (countOf (code "+") p)) 9
     (cond (not (wellPlaced (levels p))) 9
-    0)))
+    0))))

@@ -5,3 +5,4 @@ pub mod matching;
 pub mod names;
 pub mod patterns;
 pub mod payload;
+pub mod utf8;

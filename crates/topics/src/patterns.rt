@@ -1,4 +1,5 @@
 // Which patterns a rule may have (document 01, `add_rule`; 000 `validate_mqtt_wildcard` and the tests of `add_rule`).
+use crate::utf8::is_utf8;
 use slices::bytes::count_byte;
 use slices::bytes::has_byte;
 ghost use mathlib.Core.Path.{_≡_};
@@ -64,6 +65,9 @@ pub fn pattern_refusal(pattern: &[u8]) -> u32
     }
     if has_byte(pattern, 0) {
         return 9;
+    }
+    if !is_utf8(pattern) {
+        return 36;
     }
     if PLUS_MAX < count_byte(pattern, b'+') {
         return 9;

@@ -11,7 +11,6 @@ use borrow.Author.Tests.{eqb-true, eqb-false, leb-true, leb-false}
 use Rattle.laws.proofs.Cases.{by, whichever}
 use Rattle.topics.specs.Patterns.{patternRefusal}
 use Rattle.topics.specs.declared.matching.Matching.{Matching}
-use mathlib.Core.Logic.{_⊎_, inl, inr}
 use Rattle.topics.proofs.patterns.PatternLaws.{refusal-number}
 use Rattle.tables.specs.Rules.{rulePlan}
 use Rattle.tables.specs.declared.rules.QosPolicy.{QosPolicy}
@@ -68,28 +67,24 @@ add-counted m p action policy rate c =
     (record { id64 = c .id64; inspected64 = c .inspected64; total64 = c .total64 })
     c
 
-pattern-known : (p : List ℕ) → patternRefusal p ≤ 27
-pattern-known p = go (refusal-number p)
-  where
-    go : (patternRefusal p ≡ 0) ⊎ (patternRefusal p ≡ 9) → patternRefusal p ≤ 27
-    go (inl e) = omega (arith, e)
-    go (inr e) = omega (arith, e)
+pattern-known : (p : List ℕ) → patternRefusal p ≤ 36
+pattern-known p = refusal-number (λ n. n ≤ 36) p (omega arith) (omega arith) (omega arith)
 
-plan-known : (rules : List TopicRule) (n : ℕ) (p : List ℕ) (action : TopicAction) (policy : QosPolicy) (rate : ℕ) → rulePlan rules n p action policy rate .number ≤ 27
+plan-known : (rules : List TopicRule) (n : ℕ) (p : List ℕ) (action : TopicAction) (policy : QosPolicy) (rate : ℕ) → rulePlan rules n p action policy rate .number ≤ 36
 plan-known rules n p action policy rate =
-    plan-cases rules n p action policy rate (λ d. d .number ≤ 27) (λ o. pattern-known p) (λ z h. omega arith) (λ z f h. omega arith) (λ z h. omega arith)
+    plan-cases rules n p action policy rate (λ d. d .number ≤ 36) (λ o. pattern-known p) (λ z h. omega arith) (λ z f h. omega arith) (λ z h. omega arith)
 
-add-known : (m : MqttMonitor) (p : List ℕ) (action : TopicAction) (policy : QosPolicy) (rate : ℕ) → numberOf (addRule m p action policy rate .outcome) ≤ 27
+add-known : (m : MqttMonitor) (p : List ℕ) (action : TopicAction) (policy : QosPolicy) (rate : ℕ) → numberOf (addRule m p action policy rate .outcome) ≤ 36
 unfolding addRule
 add-known m p action policy rate =
     let d = rulePlan (m .rules) (m .«rule_count») p action policy rate in
-    whichever (λ (x : Called). numberOf (x .outcome) ≤ 27) (eqb (tested m (d .number)) 0) (omega arith)
-    (whichever (λ (n : ℕ). n ≤ 27) (wellFormed m) (plan-known (m .rules) (m .«rule_count») p action policy rate) (omega arith))
+    whichever (λ (x : Called). numberOf (x .outcome) ≤ 36) (eqb (tested m (d .number)) 0) (omega arith)
+    (whichever (λ (n : ℕ). n ≤ 36) (wellFormed m) (plan-known (m .rules) (m .«rule_count») p action policy rate) (omega arith))
 
 -- what was loaded, after at most so many lines
 pub record Few (l : Loaded) (lines : ℕ) : Type 0 where
   pub counted : Counted (l .monitor)
-  pub known : l .number ≤ 27
+  pub known : l .number ≤ 36
   pub line : l .line ≤ lines
 
 rule-few : (m : MqttMonitor) (s : List ℕ) (line at : ℕ) → Counted m → Few (ruleInto m s line (ruleAt s at)) (line + 4)

@@ -1,6 +1,6 @@
 -- What a loop over bytes sees at one place: each definition at the bytes from place `i` on, for the byte that stands there and for those after it.
 -- Assumes nothing.
-use mathlib.Core.Bool.{true, false}
+use mathlib.Core.Bool.{true, false, _||_}
 use mathlib.Core.List.{List, [], _∷_}
 use mathlib.Core.Path.{_≡_, refl, sym}
 use Prim.Native.Nat.{ℕ, _+_, _<_, _≤_}
@@ -25,6 +25,11 @@ none-left s k l =
     by (eqb k (length s))
     (λ e. rw (e, drop-of-length-le s {i = k} (omega (arith, eqb-true k (length s) e))))
     (λ e. rw (e, opened s k (omega (arith, eqb-false k (length s) e))))
+
+-- a byte stands in a list where it is the first or stands in the rest
+pub has-cons : (c b : ℕ) (s : List ℕ) → has c (b ∷ s) ≡ (eqb b c || has c s)
+unfolding has
+has-cons c b s = by (eqb b c) (λ e. rw (e, has)) (λ e. rw (e, has))
 
 module _ (c : ℕ) (s : List ℕ) {i : ℕ} where
   -- whether a byte stands in what is left: yes at the byte itself, else as in the rest, and no at the end

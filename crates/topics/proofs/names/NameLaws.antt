@@ -7,15 +7,9 @@ use Prim.Native.Nat.{ℕ, _+_, _<_, _≤_}
 use lib.Dec.{eqb}
 use lib.ListN.{length, drop, getD, drop-of-length-le}
 use Rattle.laws.proofs.Tests.{or-pairs}
-use Rattle.laws.proofs.Cases.{by}
 use Rattle.slices.specs.Bytes.{has}
-use Rattle.slices.proofs.bytes.WalkLaws.{opened}
+use Rattle.slices.proofs.bytes.WalkLaws.{opened, has-cons}
 use Rattle.topics.specs.Names.{badPublish}
-
--- a byte stands in a list where it is the first or stands in the rest
-has-cons : (c b : ℕ) (s : List ℕ) → has c (b ∷ s) ≡ (eqb b c || has c s)
-unfolding has
-has-cons c b s = by (eqb b c) (λ e. rw (e, has)) (λ e. rw (e, has))
 
 -- one byte of a topic
 pub bad-one : (b : ℕ) → badPublish (b ∷ []) ≡ (eqb b 0 || eqb b 43 || eqb b 35)

@@ -2,7 +2,6 @@
 -- Assumes nothing.
 use mathlib.Core.Bool.{Bool, true, false, cond, not, _||_}
 use mathlib.Core.List.{List, [], _∷_}
-use mathlib.Core.Logic.{_⊎_, inl, inr}
 use mathlib.Core.Path.{_≡_, refl, sym}
 use Prim.Native.Nat.{ℕ, _<_, _≤_}
 use native.Mathlib.Omega.{arith}
@@ -10,10 +9,14 @@ use borrow.Author.Tests.{ltb-false, le-ltb, lt-ltb, not-false}
 use lib.Dec.{ltb}
 use lib.ListN.{length}
 use Rattle.laws.specs.Lists.{none}
+use Rattle.laws.proofs.Cases.{whichever}
 use Rattle.laws.proofs.Tests.{never, neither}
 use Rattle.slices.specs.Bytes.{has, countOf}
+use Rattle.topics.specs.Encoding.{Sendable}
 use Rattle.topics.specs.Levels.{levels}
 use Rattle.topics.specs.Patterns.{wellPlaced, validWildcards, patternRefusal}
+use Rattle.topics.specs.Utf8.{isUtf8}
+use Rattle.topics.proofs.utf8.Decoded.{sendable}
 
 -- an empty pattern
 pub refused-empty : (p : List ℕ) → length p ≡ 0 → patternRefusal p ≡ 9
@@ -43,28 +46,35 @@ module _ (p : List ℕ) (some : 1 ≤ length p) where
     unfolding patternRefusal
     refused-zero z = rw (some-none p some, le-ltb _ _ short, z)
 
-    -- more than three `+`
-    pub refused-plus : has 0 p ≡ false → 3 < countOf 43 p → patternRefusal p ≡ 9
-    unfolding patternRefusal
-    refused-plus z k = rw (some-none p some, le-ltb _ _ short, z, lt-ltb _ _ k)
+    module _ (clear : has 0 p ≡ false) where
+      -- no UTF-8
+      pub refused-broken : isUtf8 p ≡ false → patternRefusal p ≡ 36
+      unfolding patternRefusal
+      refused-broken u = rw (some-none p some, le-ltb _ _ short, clear, u)
 
-    -- else the wildcard test decides
-    pub refused-valid : has 0 p ≡ false → countOf 43 p ≤ 3 → patternRefusal p ≡ cond (not (validWildcards p)) 9 0
-    unfolding patternRefusal
-    refused-valid z k = rw (some-none p some, le-ltb _ _ short, z, le-ltb _ _ k, valid-placed)
+      -- more than three `+`
+      pub refused-plus : isUtf8 p ≡ true → 3 < countOf 43 p → patternRefusal p ≡ 9
+      unfolding patternRefusal
+      refused-plus u k = rw (some-none p some, le-ltb _ _ short, clear, u, lt-ltb _ _ k)
+
+      -- else the wildcard test decides
+      pub refused-valid : isUtf8 p ≡ true → countOf 43 p ≤ 3 → patternRefusal p ≡ cond (not (validWildcards p)) 9 0
+      unfolding patternRefusal
+      refused-valid u k = rw (some-none p some, le-ltb _ _ short, clear, u, le-ltb _ _ k, valid-placed)
 
 -- what an accepted pattern is
 pub record Accepted (p : List ℕ) : Type 0 where
   pub some : 1 ≤ length p
   pub short : length p ≤ 64
   pub no-zero : has 0 p ≡ false
+  pub utf8 : isUtf8 p ≡ true
   pub few-plus : countOf 43 p ≤ 3
   pub well-placed : wellPlaced (levels p) ≡ true
 
--- a guard that does not refuse
-past : (t : Bool) (a : ℕ) → cond t 9 a ≡ 0 → (t ≡ false) × (a ≡ 0)
-past true a e = absurd (omega arith)
-past false a e = (refl, e)
+-- a guard that does not refuse with its number
+past : (t : Bool) (k a : ℕ) → 1 ≤ k → cond t k a ≡ 0 → (t ≡ false) × (a ≡ 0)
+past true k a h e = absurd (omega arith)
+past false k a h e = (refl, e)
 
 -- a list that is not empty has an element
 none-some : (p : List ℕ) → none p ≡ false → 1 ≤ length p
@@ -77,16 +87,19 @@ unfolding patternRefusal
 accepted p e =
     let placed : ℕ = cond (not (wellPlaced (levels p))) 9 0 in
     let few : ℕ = cond (ltb 3 (countOf 43 p)) 9 placed in
-    let a = past (none p || ltb 64 (length p)) (cond (has 0 p) 9 few) e in
+    let sendable : ℕ = cond (not (isUtf8 p)) 36 few in
+    let a = past (none p || ltb 64 (length p)) 9 (cond (has 0 p) 9 sendable) (omega arith) e in
     let l = neither (none p) (ltb 64 (length p)) (a .0) in
-    let b = past (has 0 p) few (a .1) in
-    let k = past (ltb 3 (countOf 43 p)) placed (b .1) in
+    let b = past (has 0 p) 9 sendable (omega arith) (a .1) in
+    let u = past (not (isUtf8 p)) 36 few (omega arith) (b .1) in
+    let k = past (ltb 3 (countOf 43 p)) 9 placed (omega arith) (u .1) in
     record {
       some = none-some p (l .0);
       short = ltb-false 64 (length p) (l .1);
       no-zero = b .0;
+      utf8 = not-false _ (u .0);
       few-plus = ltb-false 3 (countOf 43 p) (k .0);
-      well-placed = not-false _ (past (not (wellPlaced (levels p))) 0 (k .1) .0);
+      well-placed = not-false _ (past (not (wellPlaced (levels p))) 9 0 (omega arith) (k .1) .0);
     }
 
 -- an accepted pattern has 1 to 64 bytes
@@ -97,14 +110,16 @@ accepted-length p e = (accepted p e .some, accepted p e .short)
 pub accepted-placed : (p : List ℕ) → patternRefusal p ≡ 0 → wellPlaced (levels p) ≡ true
 accepted-placed p e = accepted p e .well-placed
 
--- a guard before a number that is 0 or 9
-guarded : (t : Bool) (a : ℕ) → (a ≡ 0) ⊎ (a ≡ 9) → (cond t 9 a ≡ 0) ⊎ (cond t 9 a ≡ 9)
-guarded true a h = inr refl
-guarded false a h = h
+-- an accepted pattern is a string that a client may send
+pub accepted-sendable : (p : List ℕ) → patternRefusal p ≡ 0 → Sendable p
+accepted-sendable p e = sendable p (accepted p e .utf8) (accepted p e .no-zero)
 
--- the number is 0 or 9
-pub refusal-number : (p : List ℕ) → (patternRefusal p ≡ 0) ⊎ (patternRefusal p ≡ 9)
+-- the number is 0, 9 or 36: what holds of these holds of it
+pub refusal-number : (P : ℕ → Type 0) (p : List ℕ) → P 0 → P 9 → P 36 → P (patternRefusal p)
 unfolding patternRefusal
-refusal-number p =
-    guarded (none p || ltb 64 (length p)) _
-    (guarded (has 0 p) _ (guarded (ltb 3 (countOf 43 p)) _ (guarded (not (wellPlaced (levels p))) 0 (inl refl))))
+refusal-number P p taken bad broken =
+    whichever P (none p || ltb 64 (length p)) bad
+    (whichever P (has 0 p) bad
+    (whichever P (not (isUtf8 p)) broken
+    (whichever P (ltb 3 (countOf 43 p)) bad
+    (whichever P (not (wellPlaced (levels p))) bad taken))))

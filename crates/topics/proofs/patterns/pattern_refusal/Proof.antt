@@ -3,7 +3,7 @@ use mathlib.Core.Path.{sym, _∙_}
 use native.Mathlib.Omega.{arith}
 use borrow.Author.Tests.{not-true, not-false}
 use borrow.Author.Needs.{needs}
-use Rattle.topics.proofs.patterns.PatternLaws.{refused-empty, refused-long, refused-zero, refused-plus, refused-valid}
+use Rattle.topics.proofs.patterns.PatternLaws.{refused-empty, refused-long, refused-zero, refused-broken, refused-plus, refused-valid}
 use Rattle.topics.proofs.patterns.pattern_refusal.Statement.{statement}
 use Rattle.topics.proofs.patterns.pattern_refusal.Tie as tie
 
@@ -21,32 +21,46 @@ returns-3 c =
     let p = c .before .before .before .before .before .args .pattern .now in
     sym (refused-zero p (omega arith) (omega arith) (sym (c .before .has-byte .ensures) ∙ c .if3 .taken))
 
-count-byte-requires : tie.Need-count-byte-requires
-count-byte-requires c κs = search needs
+is-utf8-requires : tie.Need-is-utf8-requires
+is-utf8-requires c κs = search needs
 
 returns-4 : tie.Need-returns-4
 returns-4 c =
     let z = c .before .before in
     let p = z .before .before .before .before .before .args .pattern .now in
-    sym (refused-plus p (omega arith) (omega arith) (sym (z .before .has-byte .ensures) ∙ z .if3 .left) (omega arith))
+    sym (refused-broken p (omega arith) (omega arith) (sym (z .before .has-byte .ensures) ∙ z .if3 .left) (sym (c .before .is-utf8 .ensures) ∙ not-true _ (c .if4 .taken)))
+
+count-byte-requires : tie.Need-count-byte-requires
+count-byte-requires c κs = search needs
+
+returns-5 : tie.Need-returns-5
+returns-5 c =
+    let u = c .before .before in
+    let z = u .before .before in
+    let p = z .before .before .before .before .before .args .pattern .now in
+    sym (refused-plus p (omega arith) (omega arith) (sym (z .before .has-byte .ensures) ∙ z .if3 .left) (sym (u .before .is-utf8 .ensures) ∙ not-false _ (u .if4 .left)) (omega arith))
 
 validate-mqtt-wildcard-requires : tie.Need-validate-mqtt-wildcard-requires
 validate-mqtt-wildcard-requires c κs = search needs
 
-returns-5 : tie.Need-returns-5
-returns-5 c =
-    let z = c .before .before .before .before in
-    let p = z .before .before .before .before .before .args .pattern .now in
-    let valid = sym (c .before .validate-mqtt-wildcard .ensures) ∙ not-true _ (c .if5 .taken) in
-    rw (refused-valid p (omega arith) (omega arith) (sym (z .before .has-byte .ensures) ∙ z .if3 .left) (omega arith), valid)
-
 returns-6 : tie.Need-returns-6
 returns-6 c =
-    let z = c .before .before .before .before in
+    let u = c .before .before .before .before in
+    let z = u .before .before in
     let p = z .before .before .before .before .before .args .pattern .now in
-    let valid = sym (c .before .validate-mqtt-wildcard .ensures) ∙ not-false _ (c .if5 .left) in
-    rw (refused-valid p (omega arith) (omega arith) (sym (z .before .has-byte .ensures) ∙ z .if3 .left) (omega arith), valid)
+    let valid = sym (c .before .validate-mqtt-wildcard .ensures) ∙ not-true _ (c .if6 .taken) in
+    rw (refused-valid p (omega arith) (omega arith) (sym (z .before .has-byte .ensures) ∙ z .if3 .left) (sym (u .before .is-utf8 .ensures) ∙ not-false _ (u .if4 .left)) (omega arith), valid)
+
+returns-7 : tie.Need-returns-7
+returns-7 c =
+    let u = c .before .before .before .before in
+    let z = u .before .before in
+    let p = z .before .before .before .before .before .args .pattern .now in
+    let valid = sym (c .before .validate-mqtt-wildcard .ensures) ∙ not-false _ (c .if6 .left) in
+    rw (refused-valid p (omega arith) (omega arith) (sym (z .before .has-byte .ensures) ∙ z .if3 .left) (sym (u .before .is-utf8 .ensures) ∙ not-false _ (u .if4 .left)) (omega arith), valid)
 
 pub pattern-refusal-spec : {M : Type 1} → statement M
 pattern-refusal-spec =
-    tie.close (tie.spec returns returns-2 has-byte-requires returns-3 count-byte-requires returns-4 validate-mqtt-wildcard-requires returns-5 returns-6)
+    tie.close
+    (tie.spec
+    returns returns-2 has-byte-requires returns-3 is-utf8-requires returns-4 count-byte-requires returns-5 validate-mqtt-wildcard-requires returns-6 returns-7)

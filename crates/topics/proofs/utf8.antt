@@ -1,0 +1,3 @@
+mod DecodeLaws
+pub mod Decoded
+pub mod Encoded
