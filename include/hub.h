@@ -67,12 +67,17 @@ struct HubClientHashes hub_client_hashes(const uint8_t *client_id, size_t client
 /* Writes the payload hash to the 32 bytes at `out`; all zero for no data. Refuses nothing. */
 void hub_compute_payload_hash(const uint8_t *data, size_t data_len, uint8_t out[32]);
 
+/* Whether the bytes are UTF-8 as MQTT 3.1.1 section 1.5.3 wants it: well formed, no number with more bytes than it
+ * needs, no surrogate, nothing above U+10FFFF, no character cut off. U+0000 passes: that a string of MQTT has no zero
+ * byte is for the caller to test. Refuses nothing. */
+bool hub_is_utf8(const uint8_t *bytes, size_t bytes_len);
+
 /* Whether each `#` is last and alone in its level and each `+` alone in its level; false for an empty pattern.
  * Refuses nothing. */
 bool hub_validate_mqtt_wildcard(const uint8_t *pattern, size_t pattern_len);
 
-/* 0 for a pattern that a rule may have; 9 for one that is refused: not 1 to 64 bytes, a zero byte, more than three
- * `+`, or a wildcard out of place. */
+/* 0 for a pattern that a rule may have; else the number that refuses it, in this order: 9 if it has not 1 to 64 bytes,
+ * 9 for a zero byte, 36 if it is not UTF-8, 9 for more than three `+`, 9 for a wildcard out of place. */
 uint32_t hub_pattern_refusal(const uint8_t *pattern, size_t pattern_len);
 
 /* Whether the pattern matches the topic, as the Rust original does it, also for patterns that no rule may have.
@@ -80,8 +85,9 @@ uint32_t hub_pattern_refusal(const uint8_t *pattern, size_t pattern_len);
 bool hub_topic_matches(const uint8_t *topic, size_t topic_len, const uint8_t *pattern, size_t pattern_len);
 
 /* The same by MQTT 3.1.1 section 4.7: `+` takes an empty last level too, and a pattern that begins with a wildcard
- * takes no name that begins with a dollar sign (4.7.2). 0 no, 1 yes. Refuses an empty name and a pattern that no rule may have, each with 9; other names that the standard
- * forbids, as one with a zero byte, are matched byte by byte. */
+ * takes no name that begins with a dollar sign (4.7.2). 0 no, 1 yes. Refuses an empty name and a pattern that no rule
+ * may have, whatever its own number, each with 9; other names that the standard forbids, as one with a zero byte or one
+ * that is not UTF-8, are matched byte by byte. */
 uint32_t hub_standard_matches(const uint8_t *name, size_t name_len, const uint8_t *pattern, size_t pattern_len);
 
 /* Whether a filter is exactly `#`, `+` or `+/#`. Refuses nothing. */
@@ -93,10 +99,10 @@ bool hub_starts_with_dollar(const uint8_t *topic, size_t topic_len);
 /* Whether a topic holds a zero byte, `+` or `#`. Refuses nothing. */
 bool hub_contains_invalid_publish_char(const uint8_t *topic, size_t topic_len);
 
-/* Reads a whole trace, inspects its messages by a monitor whose rules match as hub_topic_matches does, and writes the answer to the front of `out`: the lines of every message
- * up to the end or the refused line, then the four closing lines. The rest of `out` is left as it was. Refuses the
- * text with 9 and 21 to 27; whatever the text, refuses an `out` that the answer does not fit into with 28, line 0,
- * length 0 and nothing written. */
+/* Reads a whole trace, inspects its messages by a monitor whose rules match as hub_topic_matches does, and writes the
+ * answer to the front of `out`: the lines of every message up to the end or the refused line, then the four closing
+ * lines. The rest of `out` is left as it was. Refuses the text with 9, 21 to 27 and 36; whatever the text, refuses an
+ * `out` that the answer does not fit into with 28, line 0, length 0 and nothing written. */
 struct HubTrace hub_trace(const uint8_t *text, size_t text_len, uint8_t *out, size_t out_len);
 
 /* What hub_trace gives for this text where `out` has room for the whole answer: `length` is the room that it needs.

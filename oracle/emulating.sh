@@ -1,8 +1,8 @@
-# emulating.sh: what the part `emulated` of bin/measure needs: programs for x86-64 over the archives of loops and hub, made by the kit's compiler, and an emulator
-# that counts. bin/measure reads it, in the repository's folder, with $room a folder for the run.
+# emulating.sh: what the part `emulated` of bin/measure needs: programs for x86-64 over the archives of loops and hub, made by the kit's compiler, the program of
+# crates/calls, and an emulator that counts. bin/measure reads it, in the repository's folder, with $room a folder for the run.
 
 # ready: the archives, the programs over them, the plugin that counts, and the traces that we measure with. The traces are written by a host for this machine.
-# HUB_ARCHIVE, if set, is a folder with another libloops.a and libhub.a, as `rt staticlib` writes them, to count in place of ours.
+# HUB_ARCHIVE, if set, is a folder with another libloops.a and libhub.a, as `rt staticlib` writes them, and another target/bin/calls, to count in place of ours.
 ready() {
     if [ "$(uname -m)" = x86_64 ]; then
         echo "measure: this machine is x86-64: 'bin/measure loop traces stack' count there without an emulator" >&2
@@ -21,6 +21,11 @@ ready() {
             "$tools/lib/crtbeginS.o" "$room/$crate.o" "${HUB_ARCHIVE:-target/staticlib}/lib$crate.a" "$tools/lib/libc.so.6" "$tools/lib/libc_nonshared.a" "$tools/lib/libgcc.a" \
             "$tools/lib/libgcc_s.so.1" "$tools/lib/crtendS.o" "$tools/lib/crtn.o"
     done
+    if [ -z "${HUB_ARCHIVE-}" ]; then
+        [ -x target/bin/calls ] || rm -f target/stamp/calls # else rt takes it for built
+        rt check calls >&2
+    fi
+    cp "${HUB_ARCHIVE:-target/bin}/calls" "$room/calls"
     oracle/build
     oracle/archive hub >&2
     oracle/host benchtraces target/staticlib
@@ -39,4 +44,19 @@ emulator() {
 counted() {
     emulator "$@" >"$room/said"
     cat "$room/count"
+}
+
+# script RULES LINE TIMES: for the program of crates/calls: a monitor with so many rules of 16 bytes, then a line so many times.
+script() {
+    echo new
+    for k in $(seq 11 "$((10 + $1))"); do echo "add_rule 736974652f2b2f726f6f6d2d$(printf '%s' "$k" | od -An -tx1 | tr -d ' ')2f23 allow any 0"; done
+    for _ in $(seq "$3"); do echo "$2"; done
+}
+
+# lines RULES LINE: the instructions of such a line: read, carried out and answered.
+lines() {
+    script "$1" "$2" 100 >"$room/few"
+    script "$1" "$2" 300 >"$room/many"
+    few=$(counted calls <"$room/few") many=$(counted calls <"$room/many")
+    echo "$(((many - few) / 200))"
 }

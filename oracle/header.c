@@ -45,6 +45,18 @@ static void matching(void) {
     holds("P7, four +", hub_pattern_refusal(BYTES("+/+/+/+")) == 9 && hub_validate_mqtt_wildcard(BYTES("+/+/+/+")));
     holds("an empty pattern", hub_pattern_refusal(BYTES("")) == 9 && !hub_validate_mqtt_wildcard(BYTES("")));
 
+    holds("MQTT's own example of UTF-8", hub_is_utf8(BYTES("A\xf0\xaa\x9b\x94")));
+    holds("no bytes are UTF-8", hub_is_utf8(BYTES("")));
+    holds("so is a zero byte", hub_is_utf8(BYTES("\0")));
+    holds("an overlong zero is not", !hub_is_utf8(BYTES("\xc0\x80")));
+    holds("nor is a surrogate", !hub_is_utf8(BYTES("\xed\xa0\x80")));
+    holds("nor a character cut off", !hub_is_utf8(BYTES("a\xc3")));
+    holds("a pattern of two-byte characters", hub_pattern_refusal(BYTES("S\xc3\xbc" "d/+")) == 0);
+    holds("a pattern in Latin-1", hub_pattern_refusal(BYTES("S\xfc" "d/+")) == 36);
+    holds("36 after the zero byte", hub_pattern_refusal(BYTES("a\0\xff")) == 9);
+    holds("36 before the count of +", hub_pattern_refusal(BYTES("+/+/+/+/\xff")) == 36);
+    holds("outside the standard matcher's domain", hub_standard_matches(BYTES("a"), BYTES("\xff")) == 9);
+
     holds("+/# is broad", hub_is_broad_wildcard_subscribe(BYTES("+/#")));
     holds("a/# is not broad", !hub_is_broad_wildcard_subscribe(BYTES("a/#")));
     holds("$SYS begins with a dollar sign", hub_starts_with_dollar(BYTES("$SYS")));

@@ -5,6 +5,7 @@
 //! constructor of monitors that choose rules by another matcher than the original that this is built over.
 
 use std::fmt::{Display, Formatter, Result as Written};
+use trace::rules::{add_rule, refusal};
 use vs_mqtt_monitor::state::{self, Id};
 use vs_mqtt_monitor::{MqttInspectResult, MqttMonitor, QosPolicy, TopicAction, matcher};
 use vs_types::VsError;
@@ -123,8 +124,10 @@ pub fn no_call_hands_out(monitor: &MqttMonitor) -> Option<&'static str> {
         let Some(pattern) = rule.pattern.get(..rule.pattern_len as usize) else {
             return Some("10: pattern length over 64");
         };
-        if MqttMonitor::new().add_rule(pattern, TopicAction::Allow, QosPolicy::Any, 0).is_err() {
-            return Some("10: a pattern that add_rule refuses");
+        match refusal(pattern) {
+            0 => {}
+            36 => return Some("10: a pattern that is not UTF-8"),
+            _ => return Some("10: a pattern that add_rule refuses with 9"),
         }
     }
     let long = |live, id: Id| live && id.prefix_len > 32;
@@ -207,11 +210,11 @@ impl Original {
     /// A rule; what the original leaves behind a new pattern is made zero, as here.
     fn add_rule(&mut self, args: &Args) -> Answer {
         let (place, rate) = (self.monitor.rule_count(), args.small(3, 16) as u16);
-        let result = self.monitor.add_rule(&args.bytes(0), args.action(1), args.policy(2), rate);
+        let result = add_rule(&mut self.monitor, &args.bytes(0), args.action(1), args.policy(2), rate);
         if self.monitor.rule_count() > place && state::clear_behind(&mut self.monitor, place) {
             self.stale += 1;
         }
-        result.into()
+        result.map_or_else(Answer::Refused, Answer::Done)
     }
 }
 

@@ -28,6 +28,7 @@ fn main() {
     row("hub_client_hashes", || each(|client| _ = black_box(hub::client_hashes(client))));
     row("hub_compute_payload_hash", || each(|data| hub::compute_payload_hash(data, black_box(&mut [0; 32]))));
     row("hub_validate_mqtt_wildcard", || each(|pattern| _ = black_box(hub::validate_mqtt_wildcard(pattern))));
+    row("hub_is_utf8", || each(|pattern| _ = black_box(hub::is_utf8(pattern))));
     row("hub_pattern_refusal", || each(|pattern| _ = black_box(hub::pattern_refusal(pattern))));
     row("hub_is_broad_wildcard_subscribe", || each(|topic| _ = black_box(hub::is_broad_wildcard_subscribe(topic))));
     row("hub_starts_with_dollar", || each(|topic| _ = black_box(hub::starts_with_dollar(topic))));

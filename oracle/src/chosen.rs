@@ -348,6 +348,13 @@ fn refused(list: &mut Vec<Chosen>) {
     wrong(list, "a-pattern-of-65-bytes", &held, &pattern(&[b'a'; 65]), "end 9");
     wrong(list, "a-pattern-of-64-bytes", &held, &pattern(&[b'a'; 64]), "end 0");
     wrong(list, "a-pattern-with-four-plus", &held, &pattern(b"+/+/+/+"), "end 9");
+    wrong(list, "a-pattern-cut-off-in-a-character", &held, &pattern(b"m/\xc3"), "end 36");
+    wrong(list, "a-pattern-with-an-overlong-slash", &held, &pattern(b"m\xc0\xaf+"), "end 36");
+    wrong(list, "a-pattern-with-a-surrogate", &held, &pattern(b"m/\xed\xa0\x80"), "end 36");
+    wrong(list, "no-UTF-8-and-four-plus", &held, &pattern(b"+/+/+/+/\xff"), "end 36");
+    wrong(list, "no-UTF-8-and-a-zero-byte", &held, &pattern(b"m/\0\xff"), "end 9");
+    wrong(list, "no-UTF-8-and-65-bytes", &held, &pattern(&[0xff; 65]), "end 9");
+    wrong(list, "a-pattern-of-longer-characters", &held, &pattern("m/\u{e4}/\u{1f52d}/+".as_bytes()), "end 0");
     wrong(list, "a-pattern-of-129-bytes", &held, &pattern(&[b'a'; 129]), "end 25");
     wrong(list, "a-lost-line", "clock=ok\n", "", "end 21");
     wrong(list, "a-doubled-line", "rules=1\n", "rules=1\nrules=1\n", "end 21");

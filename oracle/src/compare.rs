@@ -1,17 +1,20 @@
 //! compare [--seed N]: matching and hashes of the archive against the Rust original, answer by answer. Short inputs
 //! are tried exhaustively, others around every length that the monitor knows, by two seeds. The standard matcher has
 //! no original: it is held to a matcher written here from MQTT 3.1.1 section 4.7, level by level, and to libmosquitto.
+//! Nor has the test of UTF-8, which is held to that of Rust's own library.
 
 mod hub;
 mod make;
 mod mosquitto;
+mod strings;
 mod tally;
 
 use hub::HubClientHashes;
 use make::{BLOCKS, LENGTHS, LIKE_NOBODY, SIGNS, pattern, short, topic};
 use std::fmt::Debug;
 use tally::{Class, Random};
-use vs_mqtt_monitor::{MqttMonitor, QosPolicy, TopicAction, client_hashes, opened};
+use trace::rules::refusal;
+use vs_mqtt_monitor::{client_hashes, opened};
 
 fn main() {
     let words: Vec<String> = std::env::args().skip(1).collect();
@@ -24,6 +27,7 @@ fn main() {
     }
     collisions(&mut classes);
     mosquitto::compare(&mut classes, seeds);
+    strings::compare(&mut classes, seeds);
 
     let mut single = Single { inputs: inputs(seeds), classes };
     single.compare("fnv1a_hash", hub::fnv1a_hash, vs_types_embedded::fnv1a_hash);
@@ -40,12 +44,6 @@ fn main() {
     if !tally::report(&single.classes) {
         std::process::exit(1);
     }
-}
-
-/// What the original's `add_rule` answers on a fresh monitor: 0, or the number of its refusal.
-fn refusal(pattern: &[u8]) -> u32 {
-    let answer = MqttMonitor::new().add_rule(pattern, TopicAction::Allow, QosPolicy::Any, 0);
-    answer.map_or_else(|error| error as u32, |_| 0)
 }
 
 /// Matching of section 4.7 on a valid pattern: `+` takes one level, also an empty one, `#` this level and all after

@@ -29,6 +29,7 @@ mod raw {
         pub fn hub_suffix_hash(topic: *const u8, topic_len: usize) -> u32;
         pub fn hub_client_hashes(client_id: *const u8, client_id_len: usize) -> HubClientHashes;
         pub fn hub_compute_payload_hash(data: *const u8, data_len: usize, out: *mut [u8; 32]);
+        pub fn hub_is_utf8(bytes: *const u8, bytes_len: usize) -> bool;
         pub fn hub_validate_mqtt_wildcard(pattern: *const u8, pattern_len: usize) -> bool;
         pub fn hub_pattern_refusal(pattern: *const u8, pattern_len: usize) -> u32;
         pub fn hub_topic_matches(topic: *const u8, topic_len: usize, pattern: *const u8, pattern_len: usize) -> bool;
@@ -73,13 +74,19 @@ pub fn compute_payload_hash(data: &[u8], out: &mut [u8; 32]) {
     unsafe { raw::hub_compute_payload_hash(data.as_ptr(), data.len(), out) }
 }
 
+/// Whether the bytes are UTF-8; U+0000 passes. Refuses nothing.
+#[inline]
+pub fn is_utf8(bytes: &[u8]) -> bool {
+    unsafe { raw::hub_is_utf8(bytes.as_ptr(), bytes.len()) }
+}
+
 /// Whether the wildcards of a pattern are well placed; no for an empty one. Refuses nothing.
 #[inline]
 pub fn validate_mqtt_wildcard(pattern: &[u8]) -> bool {
     unsafe { raw::hub_validate_mqtt_wildcard(pattern.as_ptr(), pattern.len()) }
 }
 
-/// 0 for a pattern that `add_rule` takes, 9 for one that it refuses.
+/// 0 for a pattern that `add_rule` takes, 9 or, where it is not UTF-8, 36 for one that it refuses.
 #[inline]
 pub fn pattern_refusal(pattern: &[u8]) -> u32 {
     unsafe { raw::hub_pattern_refusal(pattern.as_ptr(), pattern.len()) }
@@ -116,7 +123,7 @@ pub fn contains_invalid_publish_char(topic: &[u8]) -> bool {
     unsafe { raw::hub_contains_invalid_publish_char(topic.as_ptr(), topic.len()) }
 }
 
-/// A whole trace into the front of `out`. Refuses a text with the numbers of its `end=` line: 9, 21 to 27; and an
+/// A whole trace into the front of `out`. Refuses a text with the numbers of its `end=` line: 9, 21 to 27, 36; and an
 /// `out` that is too short with 28, line 0 and nothing written.
 #[inline]
 pub fn trace(text: &[u8], out: &mut [u8]) -> HubTrace {

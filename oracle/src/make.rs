@@ -15,6 +15,57 @@ pub const BLOCKS: [[u8; 2]; 3] = [*b"Ez", *b"FY", *b"G8"];
 /// letters that bring djb2 to 0.
 pub const LIKE_NOBODY: &[u8] = b"FYFYEzG8FYEzEzG8EzG8G8G8EzG8G8G8G8G8EzG8G8EzCaDGLKK";
 
+/// Strings that are no UTF-8: a byte out of place, a character cut off, a number with more bytes than it needs, a
+/// surrogate, a number above 10FFFF.
+pub const BROKEN: [&[u8]; 23] = [
+    b"\x80",
+    b"\xbf",
+    b"\xff",
+    b"\xfe",
+    b"\xf8\x88\x80\x80\x80",
+    b"\xc3",
+    b"\xc3/",
+    b"\xe2\x82",
+    b"\xe2\x82/",
+    b"\xf0\x9f\x98",
+    b"\xf0\x9f\x98/",
+    b"\xc0\x80",
+    b"\xc0\xaf",
+    b"\xc1\xbf",
+    b"\xe0\x80\xaf",
+    b"\xe0\x9f\xbf",
+    b"\xf0\x80\x80\xaf",
+    b"\xf0\x8f\xbf\xbf",
+    b"\xed\xa0\x80",
+    b"\xed\xbf\xbf",
+    b"\xf4\x90\x80\x80",
+    b"\xf5\x80\x80\x80",
+    b"\xf7\xbf\xbf\xbf",
+];
+
+/// Characters before and behind each edge of UTF-8, and some that MQTT only advises against.
+pub const EDGES: [&str; 12] = [
+    "\u{1}",
+    "\u{7f}",
+    "\u{80}",
+    "\u{7ff}",
+    "\u{800}",
+    "\u{d7ff}",
+    "\u{e000}",
+    "\u{feff}",
+    "\u{ffff}",
+    "\u{10000}",
+    "\u{1f52d}",
+    "\u{10ffff}",
+];
+
+/// A string in a pattern: alone, first, last, before or behind a wildcard.
+pub fn among(string: &[u8], way: usize) -> Vec<u8> {
+    let (before, behind): (&[u8], &[u8]) =
+        [(&b""[..], &b""[..]), (b"", b"a/+"), (b"a/", b""), (b"+/", b"/#"), (b"a/b", b"c/+/d")][way % 5];
+    [before, string, behind].concat()
+}
+
 /// Every string over `signs` of at most `longest` bytes, the short ones first.
 pub fn short(signs: &[u8], longest: usize) -> Vec<Vec<u8>> {
     let mut all = vec![vec![]];

@@ -11,7 +11,8 @@ pub const KINDS: [&str; 12] = [
     "kind 11",
 ];
 pub const PLACES: [&str; 4] = ["bucket replaced", "bucket expired", "client replaced", "tracker replaced"];
-const ENDS: [&str; 9] = ["end 0", "end 9", "end 21", "end 22", "end 23", "end 24", "end 25", "end 26", "end 27"];
+const ENDS: [&str; 10] =
+    ["end 0", "end 9", "end 21", "end 22", "end 23", "end 24", "end 25", "end 26", "end 27", "end 36"];
 
 /// Messages that reach the choice of a rule, and for which the port would choose another than MQTT 3.1.1 does: because it
 /// takes a dollar name, or because it refuses an empty last level.

@@ -30,9 +30,10 @@ const TYPES: [&str; 15] = [
 ];
 
 /// Every refusal that document 01 has of each call.
-const REFUSALS: [&str; 18] = [
+const REFUSALS: [&str; 19] = [
     "add_rule refused 6",
     "add_rule refused 9",
+    "add_rule refused 36",
     "remove_rule refused 9",
     "swap_rules refused 9",
     "inspect_claimed refused 9",
@@ -52,11 +53,12 @@ const REFUSALS: [&str; 18] = [
 ];
 
 /// Why a state is refused with 10.
-const REASONS: [&str; 7] = [
+const REASONS: [&str; 8] = [
     "10: rule count over 32",
     "10: a rule that counts is not live",
     "10: pattern length over 64",
-    "10: a pattern that add_rule refuses",
+    "10: a pattern that add_rule refuses with 9",
+    "10: a pattern that is not UTF-8",
     "10: a bucket's prefix length over 32",
     "10: a tracker's prefix length over 32",
     "10: a window's count over 16",

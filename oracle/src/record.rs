@@ -11,7 +11,7 @@
 //!   c BYTES HASH HASH     client_hashes
 //!   p BYTES HASH          compute_payload_hash
 //!   v PATTERN 0|1         validate_mqtt_wildcard
-//!   r PATTERN 0|9         add_rule's refusal on a fresh monitor
+//!   r PATTERN 0|9|36      add_rule's refusal on a fresh monitor; 36 is Rust's own word (`trace::rules`)
 //!   b TOPIC 0|1           is_broad_wildcard_subscribe
 //!   x TOPIC 0|1           contains_invalid_publish_char
 //!   $ TOPIC 0|1           starts_with_dollar
@@ -32,9 +32,10 @@ mod scenes;
 mod tally;
 
 use chosen::{Chosen, Form};
-use make::{BLOCKS, LENGTHS, LIKE_NOBODY};
+use make::{BLOCKS, BROKEN, EDGES, LENGTHS, LIKE_NOBODY, among};
 use met::Met;
-use vs_mqtt_monitor::{MqttMonitor, QosPolicy, TopicAction, client_hashes, opened};
+use trace::rules::refusal;
+use vs_mqtt_monitor::{client_hashes, opened};
 use vs_types_embedded::{compute_payload_hash, fnv1a_hash};
 
 /// Topics and patterns that are asked about in every pair: each wildcard in every position, empty levels, dollar
@@ -64,6 +65,13 @@ fn main() {
         pattern_tests(&with_end(len, b"\0"));
     }
     pattern_tests(&with_end(128, b""));
+    for (way, string) in BROKEN.into_iter().chain(EDGES.map(str::as_bytes)).enumerate() {
+        pattern_tests(string);
+        pattern_tests(&among(string, way));
+    }
+    for both in [&b"a\0\xff"[..], b"+/+/+/+/\xff", b"a#\xff", &with_end(64, b"\xff"), &with_end(65, b"\xff")] {
+        pattern_tests(both);
+    }
     for topic in TOPICS.iter().chain(["#", "+", "+/#", "#/", "+/", "+/+", "a\0", "a$"].iter()) {
         topic_tests(topic.as_bytes());
     }
@@ -134,8 +142,7 @@ fn hashes(bytes: &[u8]) {
 fn pattern_tests(pattern: &[u8]) {
     let text = hex(pattern);
     println!("v {text} {}", opened::validate_mqtt_wildcard(pattern) as u8);
-    let answer = MqttMonitor::new().add_rule(pattern, TopicAction::Allow, QosPolicy::Any, 0);
-    println!("r {text} {}", answer.map_or_else(|error| error as u32, |_| 0));
+    println!("r {text} {}", refusal(pattern));
 }
 
 fn topic_tests(topic: &[u8]) {

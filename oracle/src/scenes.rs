@@ -1,11 +1,12 @@
 //! Random traces, one maker for each thing that the monitor does. A maker aims at the edges of its subject; what it
 //! then really met is counted by the comparison, and `MAKERS` names what each must have met.
 
-use crate::make::{BLOCKS, LIKE_NOBODY, pattern, topic};
+use crate::make::{BLOCKS, BROKEN, EDGES, LIKE_NOBODY, among, pattern, topic};
 use crate::tally::Random;
 use clock_types::TimestampValidator;
 use std::io::Write;
 use trace::LONGEST;
+use trace::rules::refusal;
 use vs_mqtt_monitor::opened::djb2_hash;
 use vs_types_embedded::fnv1a_hash;
 
@@ -31,7 +32,7 @@ pub const MAKERS: &[Maker] = &[
     ("every QoS policy", policies, &["kind 3", "kind 4"]),
     ("blocks with and without payload", blocks, &["kind 3"]),
     ("many alerts at once", many_alerts, &["four alerts at once"]),
-    ("up to 32 rules", rule_tables, &["kind 3", "kind 4", "end 9"]),
+    ("up to 32 rules", rule_tables, &["kind 3", "kind 4", "end 9", "end 36"]),
     ("all at once", mixture, &["kind 8"]),
     ("around the longest text", longest, &["end 0", "end 27"]),
     ("small", small, &["end 0"]),
@@ -156,6 +157,29 @@ pub fn make(maker: &Maker, seed: u64, pairs: &Pairs) -> Vec<u8> {
     let mut scene = Scene { random: Random(seed), pairs, clock, full: false, text: Vec::new() };
     maker.1(&mut scene);
     scene.text
+}
+
+/// Full tables of rules, in which one pattern is odd, at each place in turn: no UTF-8, alone or with another fault; or
+/// UTF-8 of more than one byte a character, which is no fault.
+pub fn odd_patterns(pairs: &Pairs) -> Vec<Vec<u8>> {
+    let mut odd: Vec<Vec<u8>> = BROKEN.iter().enumerate().map(|(way, string)| among(string, way)).collect();
+    odd.extend([b"+/+/+/+/\xff".to_vec(), b"a#\xff".to_vec(), b"a\0\xff".to_vec(), b"\xff\0".to_vec()]);
+    odd.extend([[&[b'a'; 63][..], b"\xff"].concat(), [&[b'a'; 64][..], b"\xff"].concat()]);
+    odd.extend(EDGES.iter().enumerate().map(|(way, string)| among(string.as_bytes(), way)));
+    let places = (0..32).flat_map(|place| odd.iter().map(move |pattern| (place, pattern)));
+    places
+        .map(|(place, pattern)| {
+            let mut scene = Scene { random: Random(place as u64), pairs, clock: None, full: false, text: Vec::new() };
+            let mut rules: Vec<Rule> = (0..32).map(|k| allow(format!("r/{k}/+").as_bytes(), 1)).collect();
+            rules[place] = allow(pattern, 1);
+            scene.opening(0, &rules);
+            for at in 0..3 {
+                let name = topic(&mut scene.random, pattern, pattern.len());
+                scene.publish(at, &name);
+            }
+            scene.text
+        })
+        .collect()
 }
 
 impl Scene<'_> {
@@ -507,9 +531,10 @@ fn rule_tables(scene: &mut Scene) {
             chosen = scene.random.pick(&pool[..]).to_vec();
         }
         if refused && rules.len() == count / 2 {
-            let len = scene.random.pick(&[0, 7, 65, 128]);
-            chosen = pattern(&mut scene.random, len);
-        } else if refusal(&chosen) {
+            let (len, way) = (scene.random.pick(&[0, 7, 65, 128]), scene.random.below(5));
+            let broken = scene.random.one_in(2);
+            chosen = if broken { among(scene.random.pick(&BROKEN), way) } else { pattern(&mut scene.random, len) };
+        } else if refusal(&chosen) != 0 {
             continue;
         }
         let (block, qos) = (scene.random.one_in(4), scene.random.pick(&POLICIES));
@@ -524,12 +549,6 @@ fn rule_tables(scene: &mut Scene) {
         let size = scene.size();
         scene.message(kind, turn * 200_000, &name, size, b"");
     }
-}
-
-/// Whether the original's `add_rule` refuses a pattern.
-fn refusal(pattern: &[u8]) -> bool {
-    use vs_mqtt_monitor::{MqttMonitor, QosPolicy, TopicAction};
-    MqttMonitor::new().add_rule(pattern, TopicAction::Allow, QosPolicy::Any, 0).is_err()
 }
 
 fn mixture(scene: &mut Scene) {

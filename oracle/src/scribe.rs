@@ -3,7 +3,7 @@
 //! the scripts then really met is counted by the comparison, and `MAKERS` names what each maker must have met.
 
 use crate::answers::{NEW, NEW_DENY_DEFAULT, hex};
-use crate::make::{LIKE_NOBODY, pattern};
+use crate::make::{BROKEN, LIKE_NOBODY, among, pattern};
 use crate::met::Met;
 use crate::play::Play;
 use crate::scenes::{Pairs, reblocked};
@@ -24,7 +24,11 @@ pub type Maker = (&'static str, fn(&mut Scribe), &'static [&'static str]);
 
 pub const MAKERS: &[Maker] = &[
     ("every call", every_call, &[NEW, NEW_DENY_DEFAULT, "reset_state", "counters", "pattern overwritten"]),
-    ("tables of rules", rules, &["32 rules", "add_rule refused 6", "add_rule refused 9", "rules shadowed"]),
+    (
+        "tables of rules",
+        rules,
+        &["32 rules", "add_rule refused 6", "add_rule refused 9", "add_rule refused 36", "rules shadowed"],
+    ),
     ("buckets", buckets, &["32 buckets", "bucket replaced", "bucket expired", "bucket removed", "kind 5"]),
     ("clients", clients, &["16 clients", "client replaced", "kind 1", "window of 16"]),
     ("trackers", trackers, &["16 trackers", "tracker replaced", "tracker removed", "kind 7", "mean at its ceiling"]),
@@ -186,6 +190,10 @@ fn add_rule(scribe: &mut Scribe) {
             pattern(&mut scribe.random, len)
         }
         1 => scribe.topic(),
+        2 if scribe.random.one_in(2) => {
+            let string = scribe.random.pick(&BROKEN);
+            among(string, scribe.random.below(5))
+        }
         _ => scribe.any(|scribe| &scribe.patterns),
     };
     let action = scribe.random.pick(&["allow", "allow", "allow", "block"]);
@@ -483,8 +491,10 @@ fn spoil(scribe: &mut Scribe) {
         1 => format!("rule_live {rule} 0"),
         2 => format!("rule_length {rule} {}", scribe.random.pick(&[0, 1, 63, 64, 65, 255])),
         3 => {
-            let bad = scribe.random.pick(&["a+", "#/a", "a#", "++", "a\0", "+/+/+/+", ""]);
-            format!("rule_pattern {rule} {}", arg(bad.as_bytes()))
+            let string = scribe.random.pick(&BROKEN);
+            let broken = among(string, scribe.random.below(5));
+            let bad: [&[u8]; 9] = [b"a+", b"#/a", b"a#", b"++", b"a\0", b"+/+/+/+", b"", &broken, &broken];
+            format!("rule_pattern {rule} {}", arg(scribe.random.pick(&bad)))
         }
         4 => format!("bucket_prefix {bucket} {}", scribe.random.pick(&[31, 32, 33, 255])),
         5 => format!("tracker_prefix {tracker} {}", scribe.random.pick(&[31, 32, 33, 255])),

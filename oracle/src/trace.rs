@@ -2,6 +2,8 @@
 //! monitor and writes the answer. It is what `hub_trace` is compared with, byte by byte, and what its speed is
 //! measured against. Built over each variant of the original: over `clock` the verdicts of the text are ignored.
 
+pub mod rules;
+
 use vs_mqtt_monitor::{MqttInspectResult, MqttMonitor, QosPolicy, TopicAction};
 use vs_types_embedded::{MqttMessage, MqttPacketType, MqttQoS, opened};
 
@@ -71,10 +73,7 @@ fn read_rule(reader: &mut Reader, monitor: &mut MqttMonitor) -> Result<(), u32> 
     let action = reader.action(b"action=")?;
     let policy = reader.policy(b"qos=")?;
     let rate = reader.number(b"rate=", 0, 65_535)? as u16;
-    match monitor.add_rule(&pattern[..pattern_len], action, policy, rate) {
-        Ok(_) => Ok(()),
-        Err(error) => Err(error as u32),
-    }
+    rules::add_rule(monitor, &pattern[..pattern_len], action, policy, rate).map(|_| ())
 }
 
 /// Reads one message into `message`, and sets the verdict for its inspection.

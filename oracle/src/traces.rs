@@ -37,6 +37,7 @@ fn main() {
     let pairs = Pairs::search();
     let mut run = Run { met: Met::default(), classes: Vec::new() };
     run.example();
+    run.odd_patterns(&pairs);
     for seed in seeds {
         let mut random = Random(seed);
         for maker in MAKERS.iter().chain([&APART]) {
@@ -65,6 +66,20 @@ impl Run {
         self.compare(&mut class, EXAMPLE.as_bytes(), 0);
         for copy in damage::every(EXAMPLE.as_bytes()) {
             self.compare(&mut class, &copy, 0);
+        }
+        self.classes.push(class);
+    }
+
+    /// Patterns that are no UTF-8, at every place of a full table.
+    fn odd_patterns(&mut self, pairs: &Pairs) {
+        let mut class = Class::new("patterns that are no UTF-8, at each of 32 places");
+        let ends = ["end 36", "end 9", "end 0"];
+        let before = ends.map(|what| self.met.times(what));
+        for text in scenes::odd_patterns(pairs) {
+            self.compare(&mut class, &text, 0);
+        }
+        for (what, before) in ends.iter().zip(before) {
+            class.seen(what, self.met.times(what) - before);
         }
         self.classes.push(class);
     }

@@ -1,7 +1,8 @@
-// The published vectors, run: FNV-1a's own test strings and the worked examples of MQTT 3.1.1 section 4.7. Each line of standard input asks one thing
-// of quoted text and comes back with its answer in front:
+// The published vectors, run: FNV-1a's own test strings, the examples of UTF-8 in its standards and the worked examples of MQTT 3.1.1 section 4.7. Each line of
+// standard input asks one thing of quoted text and comes back with its answer in front:
 //     hash "TEXT"               FNV-1a of the text, 32 bits
 //     bytes "HEX"               the same of bytes that are not all text
+//     utf8 "HEX"                whether such bytes are UTF-8
 //     valid "FILTER"            whether the filter's wildcards are well placed
 //     match "FILTER" "NAME"     whether the filter takes the name, by the port and by the standard matcher (`out`: its number 9), and where they differ
 // Any other line is a heading. The answers are compared with the file `stdout`; what is proved here is that the program is safe and ends.
@@ -15,6 +16,7 @@ use topics::matching::match_number;
 use topics::matching::standard_matches;
 use topics::matching::topic_matches;
 use topics::patterns::validate_mqtt_wildcard;
+use topics::utf8::is_utf8;
 ghost use Prim.Native.Nat.{_≤_};
 ghost use lib.ListN.{length};
 ghost use Rattle.corners.specs.Parts.{PartIn};
@@ -53,7 +55,10 @@ fn answer(line: &[u8]) {
             answer_hash(line);
         }
         if word == b'b' {
-            answer_bytes(line);
+            answer_bytes(line, false);
+        }
+        if word == b'u' {
+            answer_bytes(line, true);
         }
         if word == b'v' {
             answer_valid(line);
@@ -74,16 +79,19 @@ fn answer_hash(line: &[u8]) {
     say_hash(&line[from..to]);
 }
 
-// The hash of bytes in hex, where they are such and at most 512.
-fn answer_bytes(line: &[u8]) {
+// The hash of bytes in hex, or whether they are UTF-8, where they are such and at most 512.
+fn answer_bytes(line: &[u8], test: bool) {
     let digits = quoted(line, 0);
     let from = digits.from;
     let to = digits.to;
     let mut bytes = [0u8; 512];
-    if value::hex(&line[from..to], &mut bytes) == 0 {
-        return say_hash(upto(&bytes, (to - from) / 2));
+    if value::hex(&line[from..to], &mut bytes) != 0 {
+        return say(b"refused   ");
     }
-    say(b"refused   ");
+    if test {
+        return say_test(is_utf8(upto(&bytes, (to - from) / 2)));
+    }
+    say_hash(upto(&bytes, (to - from) / 2));
 }
 
 // The eight digits of a hash.
@@ -97,7 +105,12 @@ fn answer_valid(line: &[u8]) {
     let filter = quoted(line, 0);
     let from = filter.from;
     let to = filter.to;
-    say_answer(number_of(validate_mqtt_wildcard(&line[from..to])));
+    say_test(validate_mqtt_wildcard(&line[from..to]));
+}
+
+// What a test says.
+fn say_test(answer: bool) {
+    say_answer(number_of(answer));
     say(b"  ");
 }
 
