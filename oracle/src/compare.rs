@@ -28,6 +28,7 @@ fn main() {
     collisions(&mut classes);
     mosquitto::compare(&mut classes, seeds);
     strings::compare(&mut classes, seeds);
+    strings::matching(&mut classes);
 
     let mut single = Single { inputs: inputs(seeds), classes };
     single.compare("fnv1a_hash", hub::fnv1a_hash, vs_types_embedded::fnv1a_hash);

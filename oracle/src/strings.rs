@@ -2,9 +2,11 @@
 //! test is Rust's own, `core::str::from_utf8`, which nobody here wrote.
 
 use crate::hub;
-use crate::make::{EDGES, short};
+use crate::make::{BROKEN, EDGES, among, short};
+use crate::standard_answer;
 use crate::tally::{Class, Random};
 use trace::rules::refusal;
+use vs_mqtt_monitor::opened;
 
 /// The first and the last byte of each class that well formed UTF-8 tells apart, a letter, and the signs of patterns.
 const BOUNDARIES: &[u8] = b"\x00\x01\x7f\x80\x8f\x90\x9f\xa0\xbf\xc0\xc1\xc2\xdf\xe0\xe1\xec\xed\xee\xef\xf0\xf1\xf3\xf4\xf5\xf7\xf8\xfb\xfc\xfd\xfe\xff/+#a";
@@ -29,6 +31,29 @@ pub fn compare(classes: &mut Vec<Class>, seeds: [u64; 2]) {
         let strings: Vec<Vec<u8>> = (0..300_000).flat_map(|_| right_and_damaged(&mut random)).collect();
         of_all(classes, &format!("random by seed {seed}, right and with a byte damaged"), strings.into_iter());
     }
+}
+
+/// Both matchers on patterns and names that are no UTF-8, or that have characters of many bytes.
+pub fn matching(classes: &mut Vec<Class>) {
+    let mut port = Class::new("topic_matches, strings of any bytes");
+    let mut wide = Class::new("standard_matches, strings of any bytes");
+    let odd = BROKEN.into_iter().chain(EDGES.map(str::as_bytes));
+    let strings: Vec<Vec<u8>> = odd.flat_map(|string| (0..5).map(|way| among(string, way))).collect();
+    let (mut outside, mut matched) = (0, 0);
+    for pattern in &strings {
+        let refused = refusal(pattern);
+        for name in &strings {
+            let input: [&[u8]; 2] = [name, pattern];
+            port.same(&input, hub::topic_matches(name, pattern), opened::topic_matches(name, pattern));
+            let expected = standard_answer(name, pattern, refused);
+            outside += (expected == 9) as u64;
+            matched += (expected == 1) as u64;
+            wide.same(&input, hub::standard_matches(name, pattern), expected);
+        }
+    }
+    wide.seen("outside its domain", outside);
+    wide.seen("match", matched);
+    classes.extend([port, wide]);
 }
 
 /// One string; whether it passes.

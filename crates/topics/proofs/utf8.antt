@@ -1,3 +1,4 @@
+mod AsciiLaws
 mod DecodeLaws
 pub mod Decoded
 pub mod Encoded

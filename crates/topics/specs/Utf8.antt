@@ -3,8 +3,8 @@
 -- That a string passes exactly where it is written as section 3 writes scalar values is claimed in Encoding.antt. U+0000 passes: who refuses it asks for a zero byte.
 -- Assumes nothing.
 use mathlib.Core.Bool.{Bool, true, false, cond, _&&_, _||_}
-use mathlib.Core.List.{List, foldl}
-use Prim.Native.Nat.{ℕ, _+_, _-_, _*_}
+use mathlib.Core.List.{List, [], _∷_, foldl}
+use Prim.Native.Nat.{ℕ, suc, _+_, _-_, _*_}
 use lib.Dec.{eqb, ltb, leb}
 use Rattle.topics.specs.declared.utf8.Decoding.{Decoding}
 
@@ -66,3 +66,8 @@ isWhole d = d .fine && eqb (d .left) 0
 -- the bytes are UTF-8
 unfoldable pub isUtf8 : List ℕ → Bool
 isUtf8 s = isWhole (foldl taken between s)
+
+-- how many bytes stand before the first that is not ASCII, where the code begins to decode
+unfoldable pub asciiEnd : List ℕ → ℕ
+asciiEnd [] = 0
+asciiEnd (b ∷ s) = elim (ltb b 0x80) [ true ↦ suc (asciiEnd s) | false ↦ 0 ]

@@ -1,7 +1,8 @@
 // The test of strings that MQTT 3.1.1 section 1.5.3 asks for: UTF-8, by decoding each character. No table is kept; U+0000 is the caller's to look for.
 ghost use mathlib.Core.Path.{_≡_};
-ghost use Prim.Native.Nat.{_<_};
-ghost use Rattle.topics.specs.Utf8.{isScalar, broken, between, inside, begun, continues, ended, added, taken, isUtf8};
+ghost use Prim.Native.Nat.{_<_, _≤_};
+ghost use lib.ListN.{length};
+ghost use Rattle.topics.specs.Utf8.{isScalar, broken, between, inside, begun, continues, ended, added, taken, isUtf8, asciiEnd};
 
 // Where a decoder stands: inside a character, `left` bytes of which are to come, `value` being its number so far and `least` the least number that needs so
 // many bytes; between two characters, with `left` 0; or past a byte that is no UTF-8, not `fine`.
@@ -132,8 +133,8 @@ fn take(d: Decoding, b: u8) -> Decoding
     add(d, b)
 }
 
-// Whether the bytes are UTF-8: well formed, no overlong form, no surrogate, nothing above 10FFFF, no character cut off.
-pub fn is_utf8(s: &[u8]) -> bool
+// The same as `is_utf8`, which passes over ASCII first.
+fn decodes(s: &[u8]) -> bool
     ensures { λ r. ⌜ r ≡ isUtf8 (now (s .entry)) ⌝ }
 {
     let mut d = between();
@@ -143,4 +144,28 @@ pub fn is_utf8(s: &[u8]) -> bool
         i += 1;
     }
     d.fine && d.left == 0
+}
+
+// How many bytes stand before the first that is not ASCII.
+fn ascii_end(s: &[u8]) -> usize
+    ensures { λ r. ⌜ r ≡ asciiEnd (now (s .entry)) ⌝ }
+    ensures within { λ r. ⌜ r ≤ length (now (s .entry)) ⌝ }
+{
+    let mut i = 0;
+    while i < s.len() {
+        if 0x80 <= s[i] {
+            return i;
+        }
+        i += 1;
+    }
+    s.len()
+}
+
+// Whether the bytes are UTF-8: well formed, no overlong form, no surrogate, nothing above 10FFFF, no character cut off. A pattern is tested at every call that takes a
+// state, and most have ASCII alone.
+pub fn is_utf8(s: &[u8]) -> bool
+    ensures { λ r. ⌜ r ≡ isUtf8 (now (s .entry)) ⌝ }
+{
+    let from = ascii_end(s);
+    decodes(&s[from..])
 }

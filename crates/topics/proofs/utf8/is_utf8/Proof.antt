@@ -1,56 +1,29 @@
--- `utf8::is_utf8` meets its contract. The invariant: from where the decoder stands, the bytes that are left lead to where all bytes lead, and its number is
--- narrow enough for the code; the measure: how many are left. Assumes nothing.
-use mathlib.Core.Path.{_≡_}
-use mathlib.Core.List.{foldl}
-use mathlib.Core.Logic.{inl}
-use Prim.Native.Nat.{_-_, _≤_}
-use native.Mathlib.Omega.{arith}
-use lib.ListN.{length, drop}
+-- `utf8::is_utf8` meets its contract: the slice behind ASCII is what is left after it (`tail-whole`), and decides (`utf8-behind`). Assumes nothing.
+use mathlib.Core.Path.{_∙_}
 use borrow.Author.Needs.{needs}
-use Rattle.laws.proofs.Folds.{fold-on, fold-end}
-use Rattle.topics.specs.Utf8.{between, taken, isUtf8}
-use Rattle.topics.proofs.utf8.DecodeLaws.{Narrow, taken-narrow}
+use Rattle.laws.proofs.Lists.{tail-whole}
+use Rattle.topics.proofs.utf8.AsciiLaws.{utf8-behind}
 use Rattle.topics.proofs.utf8.is_utf8.Statement.{statement}
 use Rattle.topics.proofs.utf8.is_utf8.Tie as tie
 
-abbrev Inv-loop : tie.InvT-loop
-Inv-loop s d₀ i₀ d i = (i ≤ length s) × Narrow d × (foldl taken d (drop i s) ≡ foldl taken between s)
+ascii-end-requires : tie.Need-ascii-end-requires
+ascii-end-requires c κs = search needs
 
-abbrev μ-loop : tie.MeasureT-loop
-μ-loop s d₀ i₀ d i = length s - i
+sub-decodes : tie.Need-sub-decodes
+sub-decodes c = search needs
 
-between-requires : tie.Need-between-requires Inv-loop μ-loop
-between-requires c κs = search needs
+part-decodes-start : tie.Need-part-decodes-start
+part-decodes-start c = search needs
 
-loop-holds : tie.Need-loop-holds Inv-loop μ-loop
-loop-holds c = rw (c .between .ensures) (omega arith, (omega arith, inl (omega arith)), search needs)
+part-decodes-end : tie.Need-part-decodes-end
+part-decodes-end c = search needs
 
-shared-slice-read-take : tie.Need-shared-slice-read-take Inv-loop μ-loop
-shared-slice-read-take c = search needs
+decodes-requires : tie.Need-decodes-requires
+decodes-requires c κs = search needs
 
-take-requires : tie.Need-take-requires Inv-loop μ-loop
-take-requires c κs = c .before .before .loop .inv .1 .0
-
-add-i : tie.Need-add-i Inv-loop μ-loop
-add-i c = search needs
-
-loop-less : tie.Need-loop-less Inv-loop μ-loop
-loop-less c = search needs
-
-loop-again : tie.Need-loop-again Inv-loop μ-loop
-loop-again c =
-    let l = c .before .before .before .loop .inv in
-    (omega arith, rw (c .take .ensures) (taken-narrow _ _ (l .1)), fold-on taken _ (l .2) 0 (c .before .before .loop-test .taken) (c .take .ensures))
-
-returns : tie.Need-returns Inv-loop μ-loop
-unfolding isUtf8
-returns c = rw (← fold-end taken _ (c .before .before .before .loop .inv .2) (c .before .before .loop-test .left), c .before .if1 .taken)
-
-returns-2 : tie.Need-returns-2 Inv-loop μ-loop
-unfolding isUtf8
-returns-2 c = rw (← fold-end taken _ (c .before .before .loop .inv .2) (c .before .loop-test .left), c .if1 .left)
+returns : tie.Need-returns
+returns c = rw (← utf8-behind _, ← c .before .before .ascii-end .ensures .0, ← tail-whole _ _) (c .decodes .ensures)
 
 pub is-utf8-spec : {M : Type 1} → statement M
 is-utf8-spec =
-    tie.close
-    (tie.spec Inv-loop μ-loop between-requires loop-holds shared-slice-read-take take-requires add-i loop-less loop-again returns returns-2)
+    tie.close (tie.spec ascii-end-requires sub-decodes part-decodes-start part-decodes-end decodes-requires returns)
