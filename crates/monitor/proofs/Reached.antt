@@ -6,7 +6,8 @@ use Rattle.laws.proofs.Every.{every-first}
 use Rattle.topics.proofs.patterns.PatternLaws.{accepted-sendable}
 use Rattle.tables.specs.Rules.{ruleFine, noRule}
 use Rattle.tables.proofs.rules.RuleLaws.{fine-says}
-use Rattle.monitor.specs.Reached.{Reached, SoundAlways, SendableAlways, constructed, inspected, rule-added, rule-removed, rules-swapped, rules-cleared, storm-set, bucket-removed, tracker-removed, reset}
+use Rattle.monitor.specs.Reached.{Reached, SoundAlways, SendableAlways}
+use Rattle.monitor.specs.Reached.{constructed, inspected, rule-added, rule-removed, rules-swapped, rules-cleared, storm-set, bucket-removed, tracker-removed, reset}
 use Rattle.monitor.specs.Sound.{Sound}
 use Rattle.monitor.specs.State.{wellFormed, matcherOf}
 use Rattle.monitor.specs.declared.state.MqttMonitor.{MqttMonitor}
