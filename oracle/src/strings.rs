@@ -1,5 +1,5 @@
-//! Strings for the test of UTF-8: whole spaces of short ones, and random ones that are right or damaged in one byte. The
-//! test is Rust's own, `core::str::from_utf8`, which nobody here wrote.
+//! The test of UTF-8 against Rust's own, `core::str::from_utf8`, which nobody here wrote: on whole spaces of short strings,
+//! and on random ones that are right or damaged in one byte. The number of a pattern is compared on the same strings.
 
 use crate::hub;
 use crate::make::{BROKEN, EDGES, among, short};
@@ -11,7 +11,7 @@ use vs_mqtt_monitor::opened;
 /// The first and the last byte of each class that well formed UTF-8 tells apart, a letter, and the signs of patterns.
 const BOUNDARIES: &[u8] = b"\x00\x01\x7f\x80\x8f\x90\x9f\xa0\xbf\xc0\xc1\xc2\xdf\xe0\xe1\xec\xed\xee\xef\xf0\xf1\xf3\xf4\xf5\xf7\xf8\xfb\xfc\xfd\xfe\xff/+#a";
 
-/// Every comparison of the two tests, ours and Rust's; the number of a pattern follows it.
+/// Every comparison of the two tests.
 pub fn compare(classes: &mut Vec<Class>, seeds: [u64; 2]) {
     let every_byte: Vec<u8> = (0..=255).collect();
     of_all(classes, "all strings to 2 bytes", short(&every_byte, 2).into_iter());

@@ -87,10 +87,10 @@ unfolding patternRefusal
 accepted p e =
     let placed : ℕ = cond (not (wellPlaced (levels p))) 9 0 in
     let few : ℕ = cond (ltb 3 (countOf 43 p)) 9 placed in
-    let sendable : ℕ = cond (not (isUtf8 p)) 36 few in
-    let a = past (none p || ltb 64 (length p)) 9 (cond (has 0 p) 9 sendable) (omega arith) e in
+    let coded : ℕ = cond (not (isUtf8 p)) 36 few in
+    let a = past (none p || ltb 64 (length p)) 9 (cond (has 0 p) 9 coded) (omega arith) e in
     let l = neither (none p) (ltb 64 (length p)) (a .0) in
-    let b = past (has 0 p) 9 sendable (omega arith) (a .1) in
+    let b = past (has 0 p) 9 coded (omega arith) (a .1) in
     let u = past (not (isUtf8 p)) 36 few (omega arith) (b .1) in
     let k = past (ltb 3 (countOf 43 p)) 9 placed (omega arith) (u .1) in
     record {
