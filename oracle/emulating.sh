@@ -46,17 +46,18 @@ counted() {
     cat "$room/count"
 }
 
-# script RULES LINE TIMES: for the program of crates/calls: a monitor with so many rules of 16 bytes, then a line so many times.
+# script RULES LINE TIMES [FIRST]: for the program of crates/calls: a monitor with so many rules of 16 bytes, the line FIRST, then a line so many times.
 script() {
     echo new
     for k in $(seq 11 "$((10 + $1))"); do echo "add_rule 736974652f2b2f726f6f6d2d$(printf '%s' "$k" | od -An -tx1 | tr -d ' ')2f23 allow any 0"; done
+    if [ $# -gt 3 ]; then echo "$4"; fi
     for _ in $(seq "$3"); do echo "$2"; done
 }
 
-# lines RULES LINE: the instructions of such a line: read, carried out and answered.
+# lines RULES LINE [FIRST]: the instructions of such a line: read, carried out and answered.
 lines() {
-    script "$1" "$2" 100 >"$room/few"
-    script "$1" "$2" 300 >"$room/many"
+    script "$1" "$2" 100 ${3+"$3"} >"$room/few"
+    script "$1" "$2" 300 ${3+"$3"} >"$room/many"
     few=$(counted calls <"$room/few") many=$(counted calls <"$room/many")
     echo "$(((many - few) / 200))"
 }

@@ -23,9 +23,9 @@ module _ (s : List ℕ) {i : ℕ} where
   unfolding asciiEnd
   none-here l h = rw (opened s i l, le-ltb _ _ h, asciiEnd)
 
-  none-left : length s ≤ i → asciiEnd (drop i s) ≡ 0
+  none-behind : length s ≤ i → asciiEnd (drop i s) ≡ 0
   unfolding asciiEnd
-  none-left l = rw (drop-of-length-le s l)
+  none-behind l = rw (drop-of-length-le s l)
 
   -- a loop over it: what was passed and what is ASCII of the rest make up the whole
   module _ (inv : i + asciiEnd (drop i s) ≡ asciiEnd s) where
@@ -36,17 +36,17 @@ module _ (s : List ℕ) {i : ℕ} where
     ascii-stop l h = omega (arith, inv, none-here l h)
 
     pub ascii-done : i ≤ length s → length s ≤ i → length s ≡ asciiEnd s
-    ascii-done h l = omega (arith, inv, none-left l)
+    ascii-done h l = omega (arith, inv, none-behind l)
 
 -- decoding is between two characters behind ASCII
-behind : (s : List ℕ) → foldl taken between (drop (asciiEnd s) s) ≡ foldl taken between s
+fold-behind : (s : List ℕ) → foldl taken between (drop (asciiEnd s) s) ≡ foldl taken between s
 unfolding asciiEnd taken
-behind [] = refl
-behind (b ∷ s) =
+fold-behind [] = refl
+fold-behind (b ∷ s) =
     by (ltb b 0x80)
-    (λ e. rw (e, asciiEnd) (behind s ∙ ap (λ (d : Decoding). foldl taken d s) (sym (begun-one b (ltb-true b 0x80 e)))))
+    (λ e. rw (e, asciiEnd) (fold-behind s ∙ ap (λ (d : Decoding). foldl taken d s) (sym (begun-one b (ltb-true b 0x80 e)))))
     (λ e. rw (e, asciiEnd))
 
 pub utf8-behind : (s : List ℕ) → isUtf8 (drop (asciiEnd s) s) ≡ isUtf8 s
 unfolding isUtf8
-utf8-behind s = ap isWhole (behind s)
+utf8-behind s = ap isWhole (fold-behind s)

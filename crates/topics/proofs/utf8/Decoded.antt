@@ -25,9 +25,9 @@ moved : {c d : Decoding} (s : List ℕ) → c ≡ d → Good c s → Good d s
 moved s e g = subst (λ (x : Decoding). Good x s) e g
 
 -- what is broken does not end well
-never : {P : Type 0} (s : List ℕ) → Good broken s → P
-never [] g = clash g refl
-never (b ∷ s) g = never s (moved s (take-broken broken b refl) g)
+no-good : {P : Type 0} (s : List ℕ) → Good broken s → P
+no-good [] g = clash g refl
+no-good (b ∷ s) g = no-good s (moved s (take-broken broken b refl) g)
 
 -- a byte 10xxxxxx with the bits `y`, and what it leads to
 record Next (w : ℕ) (to : ℕ → Decoding) (s : List ℕ) : Type 0 where
@@ -59,7 +59,7 @@ next left w least (b ∷ s) l g =
       is = ap (λ (x : ℕ). x ∷ s) q;
       on = moved s (ap (λ (t : Bool). cond t (cond (ltb 1 left) (inside (left - 1) (withSix w b) least) (ended (withSix w b) least)) broken) e) h;
     })
-    (λ e. never s (moved s (add-broken d b e) h))
+    (λ e. no-good s (moved s (add-broken d b e) h))
 
 -- a character all of whose bytes are there
 record Whole (v least : ℕ) (s : List ℕ) : Type 0 where
@@ -74,7 +74,7 @@ whole v least s g =
     (λ e.
     let t = both (leb least v) (isScalar v) e in
     record { above = leb-true least v (t .0); scalar = t .1; on = moved s (ap (λ (t : Bool). cond t between broken) e) g })
-    (λ e. never s (moved s (ap (λ (t : Bool). cond t between broken) e) g))
+    (λ e. no-good s (moved s (ap (λ (t : Bool). cond t between broken) e) g))
 
 -- the bytes of a number, by how many there are
 one : (v : ℕ) (s : List ℕ) → v < 0x80 → encode v ++ s ≡ v ∷ s
@@ -117,11 +117,11 @@ front : (v : ℕ) (s : List ℕ) {t : List ℕ} → isScalar v ≡ true → enco
 unfolding every encodeAll
 front v s {t} h e r = record { values = v ∷ r .values; scalars = rw (h) (r .scalars); written = rw (r .written) e }
 
-joined : {a b : ℕ} {t s : List ℕ} → a ≡ b → s ≡ t → a ∷ t ≡ b ∷ s
-joined {a} {b} {t} e f = ap (λ (x : ℕ). x ∷ t) e ∙ ap (λ (l : List ℕ). b ∷ l) (sym f)
+first-joined : {a b : ℕ} {t s : List ℕ} → a ≡ b → s ≡ t → a ∷ t ≡ b ∷ s
+first-joined {a} {b} {t} e f = ap (λ (x : ℕ). x ∷ t) e ∙ ap (λ (l : List ℕ). b ∷ l) (sym f)
 
-behind : {s t u : List ℕ} (a : ℕ) → s ≡ a ∷ t → t ≡ u → s ≡ a ∷ u
-behind a e f = e ∙ ap (λ (l : List ℕ). a ∷ l) f
+rest-joined : {s t u : List ℕ} (a : ℕ) → s ≡ a ∷ t → t ≡ u → s ≡ a ∷ u
+rest-joined a e f = e ∙ ap (λ (l : List ℕ). a ∷ l) f
 
 nothing : Encodes []
 unfolding every encodeAll
@@ -138,7 +138,7 @@ module _ (k : ℕ) (decode : (t : List ℕ) → length t ≤ k → Good between 
       let w = whole ((b - 0xC0) * 64 + x .y) 0x80 (x .rest) (x .on) in
       let q : 0xC0 + (b - 0xC0) ≡ b = omega arith in
       front ((b - 0xC0) * 64 + x .y) (x .rest) (w .scalar)
-      (two (b - 0xC0) (x .y) (x .rest) (x .small) (omega arith) (w .above) ∙ joined q (x .is))
+      (two (b - 0xC0) (x .y) (x .rest) (x .small) (omega arith) (w .above) ∙ first-joined q (x .is))
       (decode (x .rest) (omega (arith, ap length (x .is))) (w .on))
 
   from-three : 0xE0 ≤ b → b < 0xF0 → Good (inside 2 (b - 0xE0) 0x800) s → Encodes (b ∷ s)
@@ -148,7 +148,7 @@ module _ (k : ℕ) (decode : (t : List ℕ) → length t ≤ k → Good between 
       let w = whole (((b - 0xE0) * 64 + x .y) * 64 + y .y) 0x800 (y .rest) (y .on) in
       let q : 0xE0 + (b - 0xE0) ≡ b = omega arith in
       front (((b - 0xE0) * 64 + x .y) * 64 + y .y) (y .rest) (w .scalar)
-      (three (b - 0xE0) (x .y) (y .y) (y .rest) (x .small) (y .small) (omega arith) (w .above) ∙ joined q (behind (0x80 + x .y) (x .is) (y .is)))
+      (three (b - 0xE0) (x .y) (y .y) (y .rest) (x .small) (y .small) (omega arith) (w .above) ∙ first-joined q (rest-joined (0x80 + x .y) (x .is) (y .is)))
       (decode (y .rest) (omega (arith, ap length (x .is), ap length (y .is))) (w .on))
 
   from-four : 0xF0 ≤ b → Good (inside 3 (b - 0xF0) 0x10000) s → Encodes (b ∷ s)
@@ -160,7 +160,7 @@ module _ (k : ℕ) (decode : (t : List ℕ) → length t ≤ k → Good between 
       let q : 0xF0 + (b - 0xF0) ≡ b = omega arith in
       front ((((b - 0xF0) * 64 + x .y) * 64 + y .y) * 64 + z .y) (z .rest) (w .scalar)
       (four (b - 0xF0) (x .y) (y .y) (z .y) (z .rest) (x .small) (y .small) (z .small) (w .above)
-      ∙ joined q (behind (0x80 + x .y) (x .is) (behind (0x80 + y .y) (y .is) (z .is))))
+      ∙ first-joined q (rest-joined (0x80 + x .y) (x .is) (rest-joined (0x80 + y .y) (y .is) (z .is))))
       (decode (z .rest) (omega (arith, ap length (x .is), ap length (y .is), ap length (z .is))) (w .on))
 
   from-begun : Good (begun b) s → Encodes (b ∷ s)
@@ -168,7 +168,7 @@ module _ (k : ℕ) (decode : (t : List ℕ) → length t ≤ k → Good between 
       by (ltb b 0x80) (λ e. let h = ltb-true b 0x80 e in from-one h (moved s (begun-one b h) g))
       (λ e.
       let l = ltb-false b 0x80 e in
-      by (ltb b 0xC0) (λ f. never s (moved s (begun-stray b l (ltb-true b 0xC0 f)) g))
+      by (ltb b 0xC0) (λ f. no-good s (moved s (begun-stray b l (ltb-true b 0xC0 f)) g))
       (λ f.
       let l = ltb-false b 0xC0 f in
       by (ltb b 0xE0) (λ i. let h = ltb-true b 0xE0 i in from-two l h (moved s (begun-two b l h) g))
@@ -178,19 +178,19 @@ module _ (k : ℕ) (decode : (t : List ℕ) → length t ≤ k → Good between 
       (λ j.
       let l = ltb-false b 0xF0 j in
       by (ltb b 0xF8) (λ m. from-four l (moved s (begun-four b l (ltb-true b 0xF8 m)) g))
-      (λ m. never s (moved s (begun-above b (ltb-false b 0xF8 m)) g))))))
+      (λ m. no-good s (moved s (begun-above b (ltb-false b 0xF8 m)) g))))))
 
 step : (k : ℕ) → ((t : List ℕ) → length t ≤ k → Good between t → Encodes t) → (s : List ℕ) → length s ≤ suc k → Good between s → Encodes s
 unfolding taken
 step k decode [] n g = nothing
 step k decode (b ∷ s) n g = from-begun k decode b s (omega arith) g
 
-none : (s : List ℕ) → length s ≤ 0 → Encodes s
-none [] n = nothing
-none (b ∷ s) n = absurd (omega arith)
+nothing-left : (s : List ℕ) → length s ≤ 0 → Encodes s
+nothing-left [] n = nothing
+nothing-left (b ∷ s) n = absurd (omega arith)
 
 decode : (k : ℕ) (s : List ℕ) → length s ≤ k → Good between s → Encodes s
-decode zero s n g = none s n
+decode zero s n g = nothing-left s n
 decode (suc k) s n g = step k (decode k) s n g
 
 pub decoded : (s : List ℕ) → isUtf8 s ≡ true → Encodes s

@@ -102,12 +102,12 @@ unfolding isUtf8
 encoded vs s = rw (all vs s)
 
 -- a byte that is not zero
-past : (b : ℕ) (s : List ℕ) → 1 ≤ b → has 0 (b ∷ s) ≡ has 0 s
-past b s h = has-cons 0 b s ∙ ap (λ (t : Bool). t || has 0 s) (ne-eqb b 0 (λ e. omega arith))
+skip : (b : ℕ) (s : List ℕ) → 1 ≤ b → has 0 (b ∷ s) ≡ has 0 s
+skip b s h = has-cons 0 b s ∙ ap (λ (t : Bool). t || has 0 s) (ne-eqb b 0 (λ e. omega arith))
 
 -- a next byte is none
-past-six : (v : ℕ) (s : List ℕ) → has 0 (lastSix v ∷ s) ≡ has 0 s
-past-six v s = past (lastSix v) s (omega arith)
+skip-six : (v : ℕ) (s : List ℕ) → has 0 (lastSix v ∷ s) ≡ has 0 s
+skip-six v s = skip (lastSix v) s (omega arith)
 
 -- one number: its bytes have a zero byte where it is zero
 zero-one : (v : ℕ) (rest : List ℕ) → has 0 (encode v ++ rest) ≡ has 0 (v ∷ rest)
@@ -115,11 +115,11 @@ unfolding encode
 zero-one v rest =
     by (ltb v 0x80) (λ a. rw a)
     (λ a.
-    let n : has 0 (v ∷ rest) ≡ has 0 rest = past v rest (omega (arith, ltb-false v 0x80 a)) in
-    by (ltb v 0x800) (λ b. rw (a, b, n) (past (0xC0 + v / 64) _ (omega arith) ∙ past-six v _))
+    let n : has 0 (v ∷ rest) ≡ has 0 rest = skip v rest (omega (arith, ltb-false v 0x80 a)) in
+    by (ltb v 0x800) (λ b. rw (a, b, n) (skip (0xC0 + v / 64) _ (omega arith) ∙ skip-six v _))
     (λ b.
-    by (ltb v 0x10000) (λ c. rw (a, b, c, n) (past (0xE0 + v / 4096) _ (omega arith) ∙ past-six (v / 64) _ ∙ past-six v _))
-    (λ c. rw (a, b, c, n) (past (0xF0 + v / 262144) _ (omega arith) ∙ past-six (v / 4096) _ ∙ past-six (v / 64) _ ∙ past-six v _))))
+    by (ltb v 0x10000) (λ c. rw (a, b, c, n) (skip (0xE0 + v / 4096) _ (omega arith) ∙ skip-six (v / 64) _ ∙ skip-six v _))
+    (λ c. rw (a, b, c, n) (skip (0xF0 + v / 262144) _ (omega arith) ∙ skip-six (v / 4096) _ ∙ skip-six (v / 64) _ ∙ skip-six v _))))
 
 -- the same before equal rests
 zero-like : (v : ℕ) (s t : List ℕ) → has 0 s ≡ has 0 t → has 0 (v ∷ s) ≡ has 0 (v ∷ t)

@@ -21,7 +21,7 @@ use Rattle.tables.specs.declared.rules.QosPolicy.{QosPolicy}
 use Rattle.tables.specs.declared.rules.RulePlan.{RulePlan}
 use Rattle.monitor.specs.Calls.{fresh, tested, addRule}
 use Rattle.monitor.specs.Sound.{Sound}
-use Rattle.monitor.specs.State.{wellFormed, withSettings, withTables, withCounters}
+use Rattle.monitor.specs.State.{wellFormed}
 use Rattle.monitor.specs.declared.state.MqttMonitor.{MqttMonitor}
 use Rattle.monitor.proofs.rule_calls.AddLaws.{add-number, add-takes, add-leaves}
 use Rattle.monitor.proofs.PlainLaws.{holding, no-rules, Plain, fresh-plain, add-plain, add-matching}
@@ -81,14 +81,23 @@ pub loaded-monitor : (matching : Matching) (s : List ℕ)
     → let l = loaded matching s in holding matching (l .monitor .«default_action») (l .monitor .rules) (l .monitor .«rule_count») ≡ l .monitor
 loaded-monitor matching s = rw (loaded-choice matching s) at (loaded-holds Plain matching (fresh-plain matching) add-plain s)
 
--- a monitor of another choice that has all else of this one, and what was loaded into it
+-- the same monitor with another choice, and what was loaded into it
 abbrev choosing : Matching → MqttMonitor → MqttMonitor
 choosing matching m =
-    withCounters
-    (withTables
-    (withSettings (holding matching (m .«default_action») (m .rules) (m .«rule_count»)) (m .«connect_storm_threshold») (m .«connect_storm_window_us»))
-    (m .«rate_buckets») (m .«connect_windows») (m .«ewma_trackers»))
-    (m .«next_alert_id») (m .«total_inspected») (m .«total_alerts»)
+    record {
+      rules = m .rules;
+      «rule_count» = m .«rule_count»;
+      «rate_buckets» = m .«rate_buckets»;
+      «connect_windows» = m .«connect_windows»;
+      «connect_storm_threshold» = m .«connect_storm_threshold»;
+      «connect_storm_window_us» = m .«connect_storm_window_us»;
+      «default_action» = m .«default_action»;
+      matching = matching;
+      «ewma_trackers» = m .«ewma_trackers»;
+      «next_alert_id» = m .«next_alert_id»;
+      «total_inspected» = m .«total_inspected»;
+      «total_alerts» = m .«total_alerts»;
+    }
 
 abbrev loadedBy : Matching → Loaded → Loaded
 loadedBy matching l = notLoaded (l .number) (l .line) (l .next) (choosing matching (l .monitor))
@@ -98,7 +107,7 @@ module _ (matching : Matching) where
   added-alike : (m : MqttMonitor) (p : List ℕ) (action : TopicAction) (policy : QosPolicy) (rate : ℕ)
       → let a = addRule m p action policy rate in
       addRule (choosing matching m) p action policy rate ≡ record { outcome = a .outcome; monitor = choosing matching (a .monitor) }
-  unfolding addRule wellFormed fresh
+  unfolding addRule wellFormed
   added-alike m p action policy rate =
       by (eqb (tested m (rulePlan (m .rules) (m .«rule_count») p action policy rate .number)) 0) (λ e. rw e) (λ e. rw e)
 
@@ -128,7 +137,6 @@ module _ (matching : Matching) where
 
   -- so the rules that are loaded are the same
   pub same-rules : (s : List ℕ) → rulesOf (loaded Port s) ≡ rulesOf (loaded matching s)
-  unfolding fresh
   same-rules s = ap rulesOf (sym (loaded-alike s))
 
 -- what a table of rules says of what is loaded
