@@ -1,8 +1,9 @@
-//! What the Rust original answers to a line of a script, as crates/calls writes the port's answer. Three things are not
+//! What the Rust original answers to a line of a script, as crates/calls writes the port's answer. Four things are not
 //! the original's, which has no such number or leaves such bytes: 10 for a state that no call hands out, 9 for a lent
-//! topic or payload shorter than the part used, and zeros behind the pattern of a rule that is added
-//! (docs/DIFFERENCES.md). A line that is not understood, or a field that there is not, ends the program; so does a
-//! constructor of monitors that choose rules by another matcher than the original that this is built over.
+//! topic or payload shorter than the part used, 36 for a pattern that is not UTF-8 (`trace::rules`), and zeros behind the
+//! pattern of a rule that is added (docs/DIFFERENCES.md). A line that is not understood, or a field that there is not,
+//! ends the program; so does a constructor of monitors that choose rules by another matcher than the original that this
+//! is built over.
 
 use std::fmt::{Display, Formatter, Result as Written};
 use trace::rules::{add_rule, refusal};

@@ -62,7 +62,7 @@ impl Met {
         });
         self.count("traces", 1);
         let name = ENDS.iter().find(|name| name[4..] == end.number.to_string());
-        self.count(name.expect("an end that document 01 has"), 1);
+        self.count(name.expect("an end that documents 01 and 02 have"), 1);
         (end, out)
     }
 

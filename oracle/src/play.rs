@@ -29,7 +29,7 @@ const TYPES: [&str; 15] = [
     "type 12", "type 13", "type 14", "type 15",
 ];
 
-/// Every refusal that document 01 has of each call.
+/// Every refusal that documents 01 and 02 have of each call.
 const REFUSALS: [&str; 19] = [
     "add_rule refused 6",
     "add_rule refused 9",
