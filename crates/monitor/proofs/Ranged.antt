@@ -43,8 +43,8 @@ fresh-ranged matching default =
       count-fits = omega arith;
       buckets-ranged =
           alone RangedBucket 32 emptyBucket noBucket
-          (record { id-ranged = free-id; tokens-fit = omega arith; capacity-fits = omega arith; time-fits = omega arith })
-          (record { id-ranged = no-id; tokens-fit = omega arith; capacity-fits = omega arith; time-fits = omega arith });
+          (record { id-ranged = free-id; tokens-fit = omega arith; capacity-fits = omega arith; remainder-fits = omega arith; time-fits = omega arith })
+          (record { id-ranged = no-id; tokens-fit = omega arith; capacity-fits = omega arith; remainder-fits = omega arith; time-fits = omega arith });
       windows-ranged =
           alone RangedWindow 16 emptyWindow noWindow
           (record { hash-fits = omega arith; hash2-fits = omega arith; stamps-fit = zeros (2 ^ 64) 16 (omega arith); count-fits = omega arith; write-fits = omega arith; seen-fits = omega arith })

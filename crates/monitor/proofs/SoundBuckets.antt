@@ -25,6 +25,7 @@ record SoundBucket (b : RateBucket) : Type 0 where
   free : b .active ≡ false → b ≡ emptyBucket
   long : length (b .id .prefix) ≡ 32
   full : b .tokens ≤ b .capacity
+  rest : b .remainder ≤ 999999
 
 -- all free
 pub buckets-fresh : SoundBuckets (replicate 32 emptyBucket)
@@ -34,6 +35,7 @@ buckets-fresh =
       free = λ i h e. getD-replicate 32 i emptyBucket noBucket h;
       long = λ i h. rw (getD-replicate 32 i emptyBucket noBucket h);
       full = λ i h. rw (getD-replicate 32 i emptyBucket noBucket h) (omega arith);
+      rest = λ i h. rw (getD-replicate 32 i emptyBucket noBucket h) (omega arith);
       apart = λ i j l h e f. absurd (false≢true (rw (getD-replicate 32 j emptyBucket noBucket h) at f));
     }
 
@@ -49,6 +51,7 @@ module _ {T : List RateBucket} (s : SoundBuckets T) (k : ℕ) (x : RateBucket) (
         free = each noBucket T k x within (λ i b. i < 32 → b .active ≡ false → b ≡ emptyBucket) (λ l. b .free) (λ j n. s .free j);
         long = each noBucket T k x within (λ i b. i < 32 → length (b .id .prefix) ≡ 32) (λ l. b .long) (λ j n. s .long j);
         full = each noBucket T k x within (λ i b. i < 32 → b .tokens ≤ b .capacity) (λ l. b .full) (λ j n. s .full j);
+        rest = each noBucket T k x within (λ i b. i < 32 → b .remainder ≤ 999999) (λ l. b .rest) (λ j n. s .rest j);
         apart = pairs noBucket T k x within Apart 32 (λ i l m. before i l) after (λ i j m n. s .apart i j);
       }
 
@@ -56,7 +59,7 @@ module _ {T : List RateBucket} (s : SoundBuckets T) (k : ℕ) (x : RateBucket) (
 pub bucket-removed : {T : List RateBucket} → SoundBuckets T → (k : ℕ) → k < 32 → SoundBuckets (set T k emptyBucket)
 bucket-removed s k h =
     store s k emptyBucket h
-    (record { free = λ e. refl; long = refl; full = omega arith })
+    (record { free = λ e. refl; long = refl; full = omega arith; rest = omega arith })
     (λ i l e f. absurd (false≢true f))
     (λ j l m e f. absurd (false≢true e))
 
@@ -86,7 +89,8 @@ module _ (t : List ℕ) (rate now : ℕ) where
       (record {
         free = λ f. absurd (true≢false (sym live ∙ sym (k .live) ∙ f));
         long = rw (k .id) (s .long i h);
-        full = k .full (s .full i h);
+        full = k .full;
+        rest = k .rest;
       })
       (λ j m f g. rw (k .id) (s .apart j i m h f live))
       (λ j m n f g. rw (k .id) (s .apart i j m n live g))
@@ -94,7 +98,7 @@ module _ (t : List ℕ) (rate now : ℕ) where
       let z = s .size in
       let h : i < 32 = omega arith in
       store s i (made (idOf t) rate (first ok rate) now) h
-      (record { free = λ f. absurd (true≢false f); long = prefix-long t; full = first-full ok rate })
+      (record { free = λ f. absurd (true≢false f); long = prefix-long t; full = first-full ok rate; rest = omega arith })
       (λ j m f g. new-last (idOf t) (bucketAt T j .id) (away a j f))
       (λ j m n f g. new-first (idOf t) (bucketAt T j .id) (away a j g))
 

@@ -36,6 +36,7 @@ pub record RangedBucket (b : RateBucket) : Type 0 where
   pub id-ranged : RangedId (b .id)
   pub tokens-fit : b .tokens < 65536
   pub capacity-fits : b .capacity < 65536
+  pub remainder-fits : b .remainder < 2 ^ 32
   pub time-fits : b .«last_refill_us» < 2 ^ 64
 
 pub record RangedWindow (e : ClientStormEntry) : Type 0 where

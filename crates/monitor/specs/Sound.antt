@@ -39,12 +39,13 @@ pub record SoundRules (rules : List TopicRule) (n : ℕ) : Type 0 where
   pub rest : (i : ℕ) → i < 32 → drop (getD rules i noRule .«pattern_len») (getD rules i noRule .pattern) ≡ replicate (64 - getD rules i noRule .«pattern_len») 0
   pub apart : (i j : ℕ) → i < j → j < n → same (patternOf (getD rules i noRule)) (patternOf (getD rules j noRule)) ≡ false
 
--- the buckets: free places are empty, prefixes have all 32 bytes, tokens are at most the capacity, no identity is held twice
+-- the buckets: free places are empty, prefixes have all 32 bytes, tokens are at most the capacity, a remainder is no whole token, no identity is held twice
 pub record SoundBuckets (bs : List RateBucket) : Type 0 where
   pub size : length bs ≡ 32
   pub free : (i : ℕ) → i < 32 → getD bs i noBucket .active ≡ false → getD bs i noBucket ≡ emptyBucket
   pub long : (i : ℕ) → i < 32 → length (getD bs i noBucket .id .prefix) ≡ 32
   pub full : (i : ℕ) → i < 32 → getD bs i noBucket .tokens ≤ getD bs i noBucket .capacity
+  pub rest : (i : ℕ) → i < 32 → getD bs i noBucket .remainder ≤ 999999
   pub apart :
       (i j : ℕ) → i < j → j < 32 → getD bs i noBucket .active ≡ true → getD bs j noBucket .active ≡ true
       → sameId (getD bs i noBucket .id) (getD bs j noBucket .id) ≡ false

@@ -1,9 +1,9 @@
--- Document 01, "Buckets": one bucket's step, the choice of a place, and what the limiter decides. A decision is the place, the bucket to store there and
--- which of three ended it; nothing is stored here.
+-- Document 01, "Buckets", with request C-17, by which a bucket keeps the part of a token that it earned: one bucket's step, the choice of a place, and what the
+-- limiter decides. A decision is the place, the bucket to store there and which of three ended it; nothing is stored here.
 -- Assumes nothing.
 use mathlib.Core.Bool.{Bool, true, false, cond, not, _&&_, _||_}
 use mathlib.Core.List.{List}
-use Prim.Native.Nat.{ℕ, _+_, _-_, _*_, _/_, min}
+use Prim.Native.Nat.{ℕ, _+_, _-_, _*_, _/_, _%_, max}
 use lib.Dec.{leb, ltb}
 use lib.ListN.{length, getD}
 use Rattle.tables.specs.Identity.{isOf, isRemoved, noId, emptyId}
@@ -14,23 +14,33 @@ use Rattle.tables.specs.declared.buckets.Spent.{Spent}
 use Rattle.tables.specs.declared.buckets.RateDecision.{RateDecision}
 use Rattle.tables.specs.declared.buckets.RateCheckResult.the-variants.{Allowed, Limited, EvictedAndDenied}
 
--- the same bucket with other tokens and another refill time
-abbrev pub withTokens : RateBucket → ℕ → ℕ → RateBucket
-withTokens b tokens time =
-    record { id = b .id; tokens = tokens; capacity = b .capacity; «last_refill_us» = time; active = b .active }
+-- the same bucket with other tokens, another remainder and another time
+abbrev pub withTokens : RateBucket → ℕ → ℕ → ℕ → RateBucket
+withTokens b tokens remainder time =
+    record { id = b .id; tokens = tokens; capacity = b .capacity; remainder = remainder; «last_refill_us» = time; active = b .active }
 
--- refill = elapsed x capacity / 1,000,000, rounded down, elapsed 0 if the clock went back
-abbrev pub refill : RateBucket → ℕ → ℕ
-refill b t = (t - b .«last_refill_us») * b .capacity / 1000000
+-- what a refill counts, in millionths of a token: elapsed x capacity, elapsed 0 if the clock went back, and the remainder
+abbrev pub due : RateBucket → ℕ → ℕ
+due b t = (t - b .«last_refill_us») * b .capacity + b .remainder
 
--- if the refill is above 0, tokens rise to at most capacity and the refill time becomes now; otherwise the time stays
+-- the tokens, with the whole ones that are due
+abbrev pub risen : RateBucket → ℕ → ℕ
+risen b t = b .tokens + due b t / 1000000
+
+-- the stored time moves to now, but never backwards
+abbrev pub latest : RateBucket → ℕ → ℕ
+latest b t = max (b .«last_refill_us») t
+
+-- a refill: tokens rise by the whole ones that are due, and the remainder is kept; a full bucket drops it
 unfoldable pub refilled : RateBucket → ℕ → RateBucket
-refilled b t = cond (ltb 0 (refill b t)) (withTokens b (min (b .tokens + refill b t) (b .capacity)) t) b
+refilled b t =
+    cond (ltb (risen b t) (b .capacity)) (withTokens b (risen b t) (due b t % 1000000) (latest b t)) (withTokens b (b .capacity) 0 (latest b t))
 
 -- one token of a bucket is spent, or there is none
 abbrev pub takeToken : RateBucket → Spent
 takeToken b =
-    cond (ltb 0 (b .tokens)) (record { ok = true; bucket = withTokens b (b .tokens - 1) (b .«last_refill_us») }) (record { ok = false; bucket = b })
+    cond (ltb 0 (b .tokens)) (record { ok = true; bucket = withTokens b (b .tokens - 1) (b .remainder) (b .«last_refill_us») })
+    (record { ok = false; bucket = b })
 
 -- one message of a bucket's identity: refill, then one token is spent or the message is denied
 unfoldable pub spend : RateBucket → ℕ → Spent
@@ -44,20 +54,20 @@ isExpired b t = ltb 300000000 (t - b .«last_refill_us»)
 unfoldable pub holdsBucket : Id → RateBucket → Bool
 holdsBucket id b = b .active && isOf id (b .id)
 
--- a bucket made now: its capacity is the rate
+-- a bucket made now: its capacity is the rate, its remainder 0
 abbrev pub made : Id → ℕ → ℕ → ℕ → RateBucket
-made id rate tokens t = record { id = id; tokens = tokens; capacity = rate; «last_refill_us» = t; active = true }
+made id rate tokens t = record { id = id; tokens = tokens; capacity = rate; remainder = 0; «last_refill_us» = t; active = true }
 
 -- what stands past a table's end, as the checker reads it
 abbrev pub noBucket : RateBucket
-noBucket = record { id = noId; tokens = 0; capacity = 0; «last_refill_us» = 0; active = false }
+noBucket = record { id = noId; tokens = 0; capacity = 0; remainder = 0; «last_refill_us» = 0; active = false }
 
 -- a message of a held identity
 abbrev pub spentAt : List RateBucket → ℕ → ℕ → RateDecision
 spentAt bs at t =
     record { at = at; bucket = spend (getD bs at noBucket) t .bucket; result = cond (spend (getD bs at noBucket) t .ok) Allowed Limited }
 
--- a new identity: first free place; else the expired one with the least refill time; else the least refill time of all, replaced with 0 tokens and
+-- a new identity: first free place; else the expired one with the least time; else the least time of all, replaced with 0 tokens and
 -- denied. The first place wins a tie
 unfoldable pub newcomer : List RateBucket → Id → ℕ → ℕ → RateDecision
 newcomer bs id rate t =
@@ -78,8 +88,8 @@ removedBucket id bs = find (λ b. b .active && isRemoved id (b .id)) bs
 
 -- a free place
 abbrev pub emptyBucket : RateBucket
-emptyBucket = record { id = emptyId; tokens = 0; capacity = 0; «last_refill_us» = 0; active = false }
+emptyBucket = record { id = emptyId; tokens = 0; capacity = 0; remainder = 0; «last_refill_us» = 0; active = false }
 
--- not a live record with a prefix length over 32 (number 10)
+-- not a live record with a prefix length over 32 or a remainder over 999,999 (number 10)
 abbrev pub bucketFine : RateBucket → Bool
-bucketFine b = not (b .active) || leb (b .id .«prefix_len») 32
+bucketFine b = not (b .active) || leb (b .id .«prefix_len») 32 && leb (b .remainder) 999999

@@ -1,9 +1,9 @@
-// Token buckets (document 01, "Buckets"; 000 `RateBucket`, `rate_limit_check`).
+// Token buckets (document 01, "Buckets", with request C-17; 000 `RateBucket`, `rate_limit_check`).
 use crate::identity;
 use crate::identity::Id;
 use crate::identity::PREFIX;
 ghost use mathlib.Core.Path.{_≡_};
-ghost use Prim.Native.Nat.{_+_, _-_, _*_, _/_, min};
+ghost use Prim.Native.Nat.{_-_, max};
 ghost use mathlib.Core.Bool.{cond, not};
 ghost use Rattle.tables.specs.Scan.{find, leastOf, leastPlace, any};
 ghost use Rattle.tables.specs.Buckets.{withTokens, refilled, takeToken, spend, isExpired, made, newcomer, decide, removedBucket, emptyBucket, bucketFine};
@@ -13,13 +13,24 @@ pub const BUCKETS: usize = 32;
 
 const LAST: usize = BUCKETS - 1;
 
+// How many millionths make a token, and the largest remainder that is none.
+const PARTS: u64 = 1_000_000;
+
+const REMAINDER_MAX: u32 = 999_999;
+
+// How long it takes to fill any bucket, in microseconds: its capacity is earned in a second.
+const FILLS: u64 = 1_000_000;
+
 // How long a bucket may be idle before a newcomer takes its place with its full rate, in microseconds.
 const IDLE_MAX: u64 = 300_000_000;
 
+// A bucket. `remainder` has the millionths of a token that were earned and are no whole one yet; `last_refill_us`, named as in 000, is the time of the last message,
+// at the latest time so far, since each message refills.
 pub struct RateBucket {
     pub id: Id,
     pub tokens: u16,
     pub capacity: u16,
+    pub remainder: u32,
     pub last_refill_us: u64,
     pub active: bool,
 }
@@ -54,47 +65,41 @@ fn since(then: u64, now_us: u64) -> u64
     now_us - then
 }
 
-// What a time refills, cut at the capacity: a second fills any bucket, so the product never runs over.
-fn refill(elapsed: u64, capacity: u16) -> u16
-    ensures { λ r. ⌜ r ≡ min (elapsed * capacity / 1000000) capacity ⌝ }
+// The later of two times.
+fn latest(then: u64, now_us: u64) -> u64
+    ensures { λ r. ⌜ r ≡ max then «now_us» ⌝ }
 {
-    if 1_000_000 <= elapsed {
-        return capacity;
+    if now_us <= then {
+        return then;
     }
-    (elapsed * (capacity as u64) / 1_000_000) as u16
+    now_us
 }
 
-// Tokens and a refill, at most the capacity.
-fn topped(tokens: u16, gain: u16, capacity: u16) -> u16
-    ensures { λ r. ⌜ r ≡ min (tokens + gain) capacity ⌝ }
-{
-    if capacity <= gain {
-        return capacity;
-    }
-    if capacity - gain <= tokens {
-        return capacity;
-    }
-    tokens + gain
-}
-
-fn with_tokens(bucket: RateBucket, tokens: u16, time: u64) -> RateBucket
-    ensures { λ r. ⌜ r ≡ withTokens bucket tokens time ⌝ }
+fn with_tokens(bucket: RateBucket, tokens: u16, remainder: u32, time: u64) -> RateBucket
+    ensures { λ r. ⌜ r ≡ withTokens bucket tokens remainder time ⌝ }
 {
     let mut next = bucket;
     next.tokens = tokens;
+    next.remainder = remainder;
     next.last_refill_us = time;
     next
 }
 
-// A bucket refilled: where the refill is 0 its time stays, so that what was earned is not lost.
+// A bucket refilled. Where the time fills any bucket, nothing is multiplied, so that no product runs over.
 fn refilled(bucket: RateBucket, now_us: u64) -> RateBucket
     ensures { λ r. ⌜ r ≡ refilled bucket «now_us» ⌝ }
 {
-    let gain = refill(since(bucket.last_refill_us, now_us), bucket.capacity);
-    if gain == 0 {
-        return bucket;
+    let elapsed = since(bucket.last_refill_us, now_us);
+    let time = latest(bucket.last_refill_us, now_us);
+    if FILLS <= elapsed {
+        return with_tokens(bucket, bucket.capacity, 0, time);
     }
-    with_tokens(bucket, topped(bucket.tokens, gain, bucket.capacity), now_us)
+    let due = elapsed * (bucket.capacity as u64) + (bucket.remainder as u64);
+    let tokens = (bucket.tokens as u64) + due / PARTS;
+    if (bucket.capacity as u64) <= tokens {
+        return with_tokens(bucket, bucket.capacity, 0, time);
+    }
+    with_tokens(bucket, tokens as u16, (due % PARTS) as u32, time)
 }
 
 // One token is spent, or there is none.
@@ -105,7 +110,7 @@ fn take_token(bucket: RateBucket) -> Spent
     if tokens == 0 {
         return Spent { ok: false, bucket };
     }
-    let left = with_tokens(bucket, tokens - 1, bucket.last_refill_us);
+    let left = with_tokens(bucket, tokens - 1, bucket.remainder, bucket.last_refill_us);
     Spent {
         ok: true,
         bucket: left,
@@ -135,7 +140,7 @@ pub fn is_expired(bucket: RateBucket, now_us: u64) -> bool
     IDLE_MAX < since(bucket.last_refill_us, now_us)
 }
 
-// A bucket made now: its capacity is the rate.
+// A bucket made now: its capacity is the rate, its remainder 0.
 fn make(id: Id, rate: u16, tokens: u16, now_us: u64) -> RateBucket
     ensures { λ r. ⌜ r ≡ made id rate tokens «now_us» ⌝ }
 {
@@ -143,6 +148,7 @@ fn make(id: Id, rate: u16, tokens: u16, now_us: u64) -> RateBucket
         id,
         tokens,
         capacity: rate,
+        remainder: 0,
         last_refill_us: now_us,
         active: true,
     }
@@ -192,7 +198,7 @@ fn find_free(buckets: [RateBucket; BUCKETS]) -> usize
     i
 }
 
-// The place of the least refill time. It counts down, so that the first place wins a tie.
+// The place of the least time. It counts down, so that the first place wins a tie.
 fn find_oldest(buckets: [RateBucket; BUCKETS]) -> usize
     ensures { λ r. ⌜ r ≡ leastPlace (leastOf (λ b. b .«last_refill_us») any buckets) ⌝ }
 {
@@ -222,7 +228,7 @@ fn granted(at: usize, id: Id, rate: u16, now_us: u64) -> RateDecision
     }
 }
 
-// A message of a new identity: it gets the first free place, else that of the least refill time, whose bucket is expired or gives way.
+// A message of a new identity: it gets the first free place, else that of the least time, whose bucket is expired or gives way.
 fn newcomer(buckets: [RateBucket; BUCKETS], id: Id, max_rate: u16, now_us: u64) -> RateDecision
     ensures { λ r. ⌜ r ≡ newcomer buckets id «max_rate» «now_us» ⌝ }
 {
@@ -308,12 +314,13 @@ pub fn empty_bucket() -> RateBucket
         id,
         tokens: 0,
         capacity: 0,
+        remainder: 0,
         last_refill_us: 0,
         active: false,
     }
 }
 
-// Not a live bucket with a prefix length over 32 (number 10).
+// Not a live bucket with a prefix length over 32 or a remainder over 999,999 (number 10).
 pub fn bucket_fine(bucket: RateBucket) -> bool
     ensures { λ r. ⌜ r ≡ bucketFine bucket ⌝ }
 {
@@ -321,5 +328,8 @@ pub fn bucket_fine(bucket: RateBucket) -> bool
         return true;
     }
     let held = bucket.id;
-    held.prefix_len as usize <= PREFIX
+    if PREFIX < held.prefix_len as usize {
+        return false;
+    }
+    bucket.remainder <= REMAINDER_MAX
 }
