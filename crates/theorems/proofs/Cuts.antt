@@ -1,13 +1,13 @@
 -- Runs cut in two: their times, rates, states and arrivals. Assumes nothing.
-use mathlib.Core.Bool.{true}
+use mathlib.Core.Bool.{true, false≢true}
 use mathlib.Core.List.{List, [], _∷_, _++_}
-use mathlib.Core.Path.{_≡_, refl}
+use mathlib.Core.Path.{_≡_, refl, sym, _∙_}
 use Prim.Native.Nat.{ℕ, _≤_}
 use native.Mathlib.Omega.{arith}
 use Rattle.tables.specs.declared.identity.Id.{Id}
 use Rattle.monitor.specs.declared.state.MqttMonitor.{MqttMonitor}
 use Rattle.monitor.specs.Runs.{Call, Monitor, afterBy}
-use Rattle.theorems.specs.Run.{Matcher, time, rateOf, reaches, InOrder, single, later, OneRate, done, next, arrived}
+use Rattle.theorems.specs.Run.{Matcher, time, rateOf, reaches, InOrder, nothing, single, later, OneRate, Silent, done, next, arrived}
 
 -- a run that begins at s and ends at e, timestamps never going back
 abbrev pub Timed : ℕ → List Call → ℕ → Type 0
@@ -30,6 +30,12 @@ chain (later h r) = (h, chain r)
 pub from-start : (cs : List Call) → InOrder cs → From 0 cs
 from-start [] r = tt
 from-start (c ∷ cs) r = (omega arith, chain r)
+
+-- the first part of a run in order
+pub order-first : (pre post : List Call) → InOrder (pre ++ post) → InOrder pre
+order-first [] post r = nothing
+order-first (c ∷ []) post r = single c
+order-first (c ∷ d ∷ pre) post (later h r) = later h (order-first (d ∷ pre) post r)
 
 -- the part before a call, the part after it, and a part that ends with it
 module _ (z : Call) where
@@ -69,3 +75,8 @@ module _ {matcher : Matcher} {m : MqttMonitor} {x : Id} {R : ℕ} where
 
   pub rate-head : {c : Call} {cs : List Call} → OneRate matcher m x R (c ∷ cs) → reaches matcher m x c ≡ true → rateOf matcher m c ≡ R
   rate-head (next h r) = h
+
+  -- silence, and one message behind it
+  pub rate-silent : {cs : List Call} → Silent matcher m x cs → (z : Call) → rateOf matcher m z ≡ R → OneRate matcher m x R (cs ++ z ∷ [])
+  rate-silent done z e = next (λ _. e) done
+  rate-silent (next q r) z e = next (λ h. absurd (false≢true (sym q ∙ h))) (rate-silent r z e)

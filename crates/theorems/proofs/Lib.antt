@@ -11,11 +11,15 @@ mod Budget
 mod Claims
 mod Corners
 mod Cuts
+mod Exactness
+mod Follows
 mod Holders
 mod Loop
 mod Lower
+mod LowerExact
 mod Printed
 mod Reach
+mod Seated
 mod Seats
 mod Shipped
 mod ShutOut

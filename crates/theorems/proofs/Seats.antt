@@ -1,6 +1,5 @@
--- The lower half's invariants, and that a message keeps them. While no more than 32 identities have come, each is still in the table and the places from their number on are
--- free (`Seats`): so a newcomer finds a free place, and no one is replaced. And the buckets of one identity under one rate are of that rate and not of a time to come
--- (`Known`). Assumes nothing.
+-- The lower half's invariant, and that a message keeps it. While no more than 32 identities have come, each is still in the table and the places from their number on are
+-- free (`Seats`): so a newcomer finds a free place, and no one is replaced. Assumes nothing.
 use mathlib.Core.Bool.{Bool, true, false}
 use mathlib.Core.List.{List, [], _∷_, _++_}
 use mathlib.Core.Logic.{_⊎_, inl, inr, ⊎-elim}
@@ -127,39 +126,3 @@ room {T} {l = l} {y = y} {rate} {t} n o s h (put i ok q a seat) =
           };
       still = k;
     }
-
--- every bucket of an identity is of its rate, and of a time up to its last message
-pub record Known (x : Id) (R last : ℕ) (T : List RateBucket) : Type 0 where
-  pub knows : (j : ℕ) → holdsBucket x (bucketAt T j) ≡ true → (bucketAt T j .capacity ≡ R) × (timeAt T j ≤ last)
-
-pub known-wait : {x : Id} {R s t : ℕ} {T : List RateBucket} → s ≤ t → Known x R s T → Known x R t T
-known-wait h k = record { knows = λ j e. (k .knows j e .0, omega (arith, k .knows j e .1)) }
-
-known-set : {x : Id} {R s t : ℕ} (T : List RateBucket) (i : ℕ) (c : RateBucket) → i < length T → s ≤ t → Known x R s T
-    → (holdsBucket x c ≡ true → (c .capacity ≡ R) × (c .«last_refill_us» ≤ t)) → Known x R t (set T i c)
-known-set {x} {R} {s} {t} T i c q h k f =
-    record {
-      knows =
-          each noBucket T i c q (λ j d. holdsBucket x d ≡ true → (d .capacity ≡ R) × (d .«last_refill_us» ≤ t)) f
-          (λ j _ e. (k .knows j e .0, omega (arith, k .knows j e .1)));
-    }
-
-module _ {T : List RateBucket} (n : Named T) (x : Id) {y : Id} (o : OfTopic y) {R t : ℕ} where
-  -- after a message of the identity itself
-  pub known-own : {s : ℕ} {T′ : List RateBucket} {ok : Bool} → isOf x y ≡ true → s ≤ t → Known x R s T → Step T y R t T′ ok → Known x R t T′
-  known-own e h k (hit i q w) =
-      let v = keeps (bucketAt T i) t in
-      let m = k .knows i (mine n x o e i ∙ w) in
-      known-set T i (spend (bucketAt T i) t .bucket) q h k (λ _. (v .cap ∙ m .0, v .soon (omega (arith, m .1))))
-  known-own e h k (put i ok q a seat) = known-set T i (made y R (first ok R) t) q h k (λ _. (refl, omega arith))
-
-  pub present-own : {T′ : List RateBucket} {ok : Bool} → isOf x y ≡ true → Step T y R t T′ ok → Present x T′
-  present-own e (hit i q w) = stored-present T i (spend (bucketAt T i) t .bucket) q x (same-holder x (bucketAt T i) t ∙ mine n x o e i ∙ w)
-  present-own e (put i ok q a seat) = stored-present T i (made y R (first ok R) t) q x (made-holder x y R (first ok R) t ∙ e)
-
-  -- after a message of another
-  pub known-other : {s rate : ℕ} {T′ : List RateBucket} {ok : Bool} → isOf x y ≡ false → Known x R s T → Step T y rate t T′ ok → Known x R s T′
-  known-other e k (hit i q w) =
-      known-set T i (spend (bucketAt T i) t .bucket) q (omega arith) k (λ h. clash h (same-holder x (bucketAt T i) t ∙ not-mine n x o e i w))
-  known-other {rate = rate} e k (put i ok q a seat) =
-      known-set T i (made y rate (first ok rate) t) q (omega arith) k (λ h. clash h (made-holder x y rate (first ok rate) t ∙ e))

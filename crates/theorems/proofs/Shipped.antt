@@ -17,11 +17,11 @@ use Rattle.theorems.proofs.Turns.{Like, rate-like, formed-there, on, on
 use Rattle.theorems.proofs.Upper.{upper}
 
 -- the state after a run chose what the first did
-still : (p : MqttMonitor) (cs : List Call) → Keeps p (after (matcherOf p) p cs)
+pub still : (p : MqttMonitor) (cs : List Call) → Keeps p (after (matcherOf p) p cs)
 still p cs = rw (one-matcher p cs .left) at (one-matcher p cs .choice)
 
 -- what is counted of a run is what specs/Run.antt counts
-passed-alike : {p m : MqttMonitor} → Like p m → Keeps p m → (x : Id) (cs : List Call) → passedBy shipped p m x cs ≡ allowedOf (matcherOf p) m x cs
+pub passed-alike : {p m : MqttMonitor} → Like p m → Keeps p m → (x : Id) (cs : List Call) → passedBy shipped p m x cs ≡ allowedOf (matcherOf p) m x cs
 unfolding passedBy allowedOf reaches
 passed-alike k e x [] = refl
 passed-alike {p} {m} k e x (c ∷ cs) =
@@ -30,7 +30,7 @@ passed-alike {p} {m} k e x (c ∷ cs) =
     rw (v, a, rate-like (matcherOf p) k c, passed-alike (on (matcherOf p) k c) (inspect-keeps (matcherOf p) m c ∙ e) x cs)
 
 -- and so is the verdict after one
-verdict : (p : MqttMonitor) (cs : List Call) (z : Call) → passes shipped (afterBy shipped p cs) z ≡ isAllowed (matcherOf p) (after (matcherOf p) p cs) z
+pub verdict : (p : MqttMonitor) (cs : List Call) (z : Call) → passes shipped (afterBy shipped p cs) z ≡ isAllowed (matcherOf p) (after (matcherOf p) p cs) z
 verdict p cs z =
     ap (λ (m : MqttMonitor). passes shipped m z) (one-matcher p cs .left)
     ∙ ap (λ (matching : Matching). isAllowed (matchesBy matching) (after (matcherOf p) p cs) z) (still p cs)

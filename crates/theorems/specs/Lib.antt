@@ -1,6 +1,7 @@
 pub mod Claims
 pub mod Corners
 pub mod Limits
+pub mod LowerExact
 pub mod One
 pub mod Printed
 pub mod Run
