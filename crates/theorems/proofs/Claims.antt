@@ -12,6 +12,8 @@ use Rattle.monitor.proofs.Unbroken.{unbroken-always}
 use Rattle.trace.proofs.AsRun.{same-read}
 use Rattle.theorems.specs.Claims.{Claims}
 use Rattle.theorems.proofs.Corners.{corners}
+use Rattle.theorems.proofs.Exactness.{exactness}
+use Rattle.theorems.proofs.Guider.{guider-runs}
 use Rattle.theorems.proofs.Loop.{loop-limits}
 use Rattle.theorems.proofs.Lower.{lower-first, lower-later}
 use Rattle.theorems.proofs.Printed.{printed-limits}
@@ -29,6 +31,8 @@ claims =
       lower-first = lower-first;
       lower-later = lower-later;
       shipped = shipped-meets;
+      exact = exactness;
+      guider = guider-runs;
       met = tight;
       slips = slips;
       printed = printed-limits;

@@ -13,6 +13,7 @@ mod Corners
 mod Cuts
 mod Exactness
 mod Follows
+mod Guider
 mod Holders
 mod Loop
 mod Lower

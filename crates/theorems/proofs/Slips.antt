@@ -1,4 +1,4 @@
--- The three runs, by computation. Assumes nothing.
+-- The six runs, by computation. Assumes nothing.
 use mathlib.Core.Path.{refl}
 use Rattle.laws.specs.Lists.{every}
 use Rattle.slices.specs.Bytes.{same, has, countOf}
@@ -27,4 +27,4 @@ unfolding matchBytes fromSlash takesNone takesEnd firstLevel restLevels same has
     isOf find leastOf refilled spend isExpired holdsBucket newcomer decide qosOk ruleFine equalRule firstRule covered shadowedAfter severityOf hashOf
     kindsOf raise raiseAll fresh rulePlan addRule rulingOf gateAfter gateOf applied inspectRefusal inspectWith seenOf spentOf fedOf denialOf planFrom
     planOf every wellFormed afterBy firstRate rateOf reaches allowedOf hub publish crowd
-slips = record { replaced = refl; expired = refl; capped = refl }
+slips = record { replaced = refl; expired = refl; capped = refl; dropped = refl; moved = refl; bare = refl }

@@ -10,7 +10,9 @@ use Rattle.monitor.specs.Reached.{SoundAlways, UnbrokenAlways, SendableAlways}
 use Rattle.monitor.specs.Told.{DeniedByKind, AtMostFour, NoneDropped, TotalIsSum}
 use Rattle.trace.specs.AsRun.{ReadAlike}
 use Rattle.theorems.specs.Corners.{Corners}
+use Rattle.theorems.specs.Guider.{Guider}
 use Rattle.theorems.specs.Limits.{Upper, LowerFirst, LowerLater}
+use Rattle.theorems.specs.LowerExact.{Exactness}
 use Rattle.theorems.specs.Printed.{PrintedLimits, LoopLimits}
 use Rattle.theorems.specs.Shipped.{ShippedLimits}
 use Rattle.theorems.specs.ShutOut.{ShutOut}
@@ -28,9 +30,14 @@ pub record Claims : Type 0 where
   pub lower-later : LowerLater
   -- all of it of the shipped `inspect`, in monitors of either matcher, over their own runs
   pub shipped : ShippedLimits
+  -- EXACT (request C-17): while no more than 32 identities have reached the limiter, a message is denied only if letting it pass would break the upper half, for some stretch of its
+  -- identity's messages that ends with it; both lower halves follow from this, of any monitor, and where there is no room every monitor that keeps the upper half denies
+  pub exact : Exactness
+  -- the request's guider, every 0.4 s at a rate of 2: four of five pass, every second one before; so the step before does not meet it
+  pub guider : Guider
   -- these bounds are met: four messages where the bound is four; a later message at the very microsecond; the night that started this
   pub met : Met × MetLater × Night
-  -- three slips of a limiter break the upper half
+  -- six slips of a limiter break the upper half
   pub slips : Slips
   -- WHAT IS PRINTED is what `inspect` answers, message by message, for every text and either matcher; and demand 3 holds of it, for each topic of at most 32 bytes
   pub printed : PrintedLimits

@@ -1,5 +1,6 @@
 pub mod Claims
 pub mod Corners
+pub mod Guider
 pub mod Limits
 pub mod LowerExact
 pub mod One
