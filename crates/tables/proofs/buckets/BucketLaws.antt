@@ -6,13 +6,13 @@
 use mathlib.Core.Bool.{Bool, true, false, cond, not, _&&_, _||_, true≢false}
 use mathlib.Core.Logic.{_⊎_, inl, inr, ⊎-elim}
 use mathlib.Core.Path.{_≡_, refl, ap, subst}
-use Prim.Native.Nat.{ℕ, _+_, _-_, _*_, _%_, _<_, _≤_, min}
+use Prim.Native.Nat.{ℕ, _+_, _-_, _*_, _<_, _≤_}
 use native.Mathlib.Nat.{sub-add-cancel}
 use native.Mathlib.Omega.{arith}
 use borrow.Author.Tests.{le-leb, ltb-true, ltb-false}
 use lib.Dec.{leb, ltb}
 use Rattle.laws.proofs.Cases.{by}
-use Rattle.tables.specs.Buckets.{withTokens, due, risen, latest, refilled, takeToken, spend, made, bucketFine}
+use Rattle.tables.specs.Buckets.{withTokens, risen, latest, refilled, spend, made, bucketFine}
 use Rattle.tables.specs.declared.identity.Id.{Id}
 use Rattle.tables.specs.declared.buckets.RateBucket.{RateBucket}
 use Rattle.tables.specs.declared.buckets.Spent.{Spent}
@@ -57,60 +57,77 @@ pub record Kept (t : ℕ) (b c : RateBucket) : Type 0 where
   pub later : b .«last_refill_us» ≤ c .«last_refill_us»
   pub soon : b .«last_refill_us» ≤ t → c .«last_refill_us» ≤ t
 
--- tokens and remainder after a refill: what was there and what is due, or a full bucket
-record Filled (b : RateBucket) (t k r : ℕ) : Type 0 where
-  rest : r ≤ 999999
-  most : 1000000 * k + r ≤ 1000000 * b .capacity
-  sums : (1000000 * k + r ≡ 1000000 * b .tokens + due b t) ⊎ (1000000 * k + r ≡ 1000000 * b .capacity)
-  more : 1000000 * k + r ≤ 1000000 * b .tokens + due b t
+-- a bucket after a refill: what was there and what is due, or a full one
+record Filled (b : RateBucket) (t : ℕ) (c : RateBucket) : Type 0 where
+  live : c .active ≡ b .active
+  id : c .id ≡ b .id
+  cap : c .capacity ≡ b .capacity
+  time : c .«last_refill_us» ≡ latest b t
+  rest : c .remainder ≤ 999999
+  most : level c ≤ 1000000 * b .capacity
+  sums : (level c ≡ level b + (t - b .«last_refill_us») * b .capacity) ⊎ (level c ≡ 1000000 * b .capacity)
+  more : level c ≤ level b + (t - b .«last_refill_us») * b .capacity
 
 -- the two ways of a message after its refill: a token is spent, or there is none
 data Way (b : RateBucket) (t : ℕ) : Spent → Type 0 where
-  taken : (k r : ℕ) → Filled b t k r → 0 < k → Way b t (record { ok = true; bucket = withTokens b (k - 1) r (latest b t) })
-  none : (k r : ℕ) → Filled b t k r → k ≡ 0 → Way b t (record { ok = false; bucket = withTokens b k r (latest b t) })
+  taken :
+      (c : RateBucket) → Filled b t c → 0 < c .tokens
+      → Way b t (record { ok = true; bucket = withTokens c (c .tokens - 1) (c .remainder) (c .«last_refill_us») })
+  none : (c : RateBucket) → Filled b t c → c .tokens ≡ 0 → Way b t (record { ok = false; bucket = c })
 
 module _ (b : RateBucket) (t : ℕ) where
-  takes : (k r : ℕ) → Filled b t k r → Way b t (takeToken (withTokens b k r (latest b t)))
-  takes k r f =
-      by (ltb 0 k) (λ s. rw s (taken k r f (ltb-true _ _ s))) (λ s. rw s (none k r f (let g = ltb-false 0 k s in omega arith)))
-
-  way : Way b t (spend b t)
-  unfolding spend refilled
-  way =
+  fills : Filled b t (refilled b t)
+  unfolding refilled
+  fills =
       by (ltb (risen b t) (b .capacity))
       (λ e.
       let h : risen b t < b .capacity = ltb-true _ _ e in
-      rw e (takes (risen b t) (due b t % 1000000) (record { rest = omega arith; most = omega arith; sums = inl (omega arith); more = omega arith })))
+      rw e
+      (record { live = refl; id = refl; cap = refl; time = refl; rest = omega arith; most = omega arith; sums = inl (omega arith); more = omega arith }))
       (λ e.
       let h : b .capacity ≤ risen b t = ltb-false _ _ e in
-      rw e (takes (b .capacity) 0 (record { rest = omega arith; most = omega arith; sums = inr (omega arith); more = omega arith })))
+      rw e
+      (record { live = refl; id = refl; cap = refl; time = refl; rest = omega arith; most = omega arith; sums = inr (omega arith); more = omega arith }))
+
+  way : Way b t (spend b t)
+  unfolding spend
+  way =
+      by (ltb 0 (refilled b t .tokens))
+      (λ e. rw e (taken (refilled b t) fills (ltb-true _ _ e)))
+      (λ e. rw e (none (refilled b t) fills (let g = ltb-false 0 (refilled b t .tokens) e in omega arith)))
 
 -- a time's worth, in two parts
 span : (R l t : ℕ) → l ≤ t → (t - l) * R + R * l ≡ R * t
 span R l t h = omega (arith, ap (λ (k : ℕ). R * k) (sub-add-cancel h))
 
 module _ (b : RateBucket) (t : ℕ) (h : b .«last_refill_us» ≤ t) where
-  -- the stored time is now, and is worth as much
-  worth : b .capacity * latest b t ≡ b .capacity * t
-  worth = ap (λ (k : ℕ). b .capacity * k) (omega arith)
+  -- the stored time is now
+  is-now : {c : RateBucket} → Filled b t c → c .«last_refill_us» ≡ t
+  is-now f = let e = f .time in omega arith
+
+  -- and is worth as much
+  worth : {c : RateBucket} → Filled b t c → b .capacity * c .«last_refill_us» ≡ b .capacity * t
+  worth f = ap (λ (k : ℕ). b .capacity * k) (is-now f)
 
   at-capacity : {s : Spent} → Way b t s → Law (b .capacity) t b s
-  at-capacity (taken k r f p) =
+  at-capacity (taken c f p) =
       let w = span (b .capacity) (b .«last_refill_us») t h in
-      let e = worth in
-      record { good = record { cap = refl; past = omega arith }; keeps = omega arith; starts = omega arith }
-  at-capacity (none k r f p) =
+      let e = worth f in
+      let n = is-now f in
+      record { good = record { cap = f .cap; past = omega arith }; keeps = omega (arith, f .more); starts = omega (arith, f .most) }
+  at-capacity (none c f p) =
       let w = span (b .capacity) (b .«last_refill_us») t h in
-      let e = worth in
-      record { good = record { cap = refl; past = omega arith }; keeps = omega arith; starts = omega arith }
+      let e = worth f in
+      let n = is-now f in
+      record { good = record { cap = f .cap; past = omega arith }; keeps = omega (arith, f .more); starts = omega (arith, f .most) }
 
   exactly-at : {s : Spent} → Way b t s → Exactly (b .capacity) t b s
-  exactly-at (taken k r f p) =
+  exactly-at (taken c f p) =
       let w = span (b .capacity) (b .«last_refill_us») t h in
-      record { sums = ⊎-elim (λ d. inl (omega arith)) (λ d. inr (omega arith)) (f .sums); less = λ z. absurd (true≢false z); now = omega arith }
-  exactly-at (none k r f p) =
+      record { sums = ⊎-elim (λ d. inl (omega arith)) (λ d. inr (omega arith)) (f .sums); less = λ z. absurd (true≢false z); now = is-now f }
+  exactly-at (none c f p) =
       let w = span (b .capacity) (b .«last_refill_us») t h in
-      record { sums = ⊎-elim (λ d. inl (omega arith)) (λ d. inr (omega arith)) (f .sums); less = λ z. omega (arith, f .rest); now = omega arith }
+      record { sums = ⊎-elim (λ d. inl (omega arith)) (λ d. inr (omega arith)) (f .sums); less = λ z. omega (arith, f .rest); now = is-now f }
 
 -- a message of a good bucket's identity
 pub spends : (R t : ℕ) (b : RateBucket) → Good R t b → Law R t b (spend b t)
@@ -129,10 +146,20 @@ pub wait : {R now t : ℕ} {b : RateBucket} → Good R now b → now ≤ t → G
 wait g h = record { cap = g .cap; past = (let k = g .past in omega arith) }
 
 kept-by : (b : RateBucket) (t : ℕ) {s : Spent} → Way b t s → Kept t b (s .bucket)
-kept-by b t (taken k r f p) =
-    record { live = refl; id = refl; cap = refl; full = omega (arith, f .most); rest = f .rest; later = omega arith; soon = λ h. omega arith }
-kept-by b t (none k r f p) =
-    record { live = refl; id = refl; cap = refl; full = omega arith; rest = f .rest; later = omega arith; soon = λ h. omega arith }
+kept-by b t (taken c f p) =
+    let e = f .time in
+    record {
+      live = f .live;
+      id = f .id;
+      cap = f .cap;
+      full = omega (arith, f .most, f .cap);
+      rest = f .rest;
+      later = omega arith;
+      soon = λ h. omega arith;
+    }
+kept-by b t (none c f p) =
+    let e = f .time in
+    record { live = f .live; id = f .id; cap = f .cap; full = omega arith; rest = f .rest; later = omega arith; soon = λ h. omega arith }
 
 pub keeps : (b : RateBucket) (t : ℕ) → Kept t b (spend b t .bucket)
 keeps b t = kept-by b t (way b t)
