@@ -1,3 +1,4 @@
+mod Account
 mod AnswersCut
 mod AnswersHub
 mod AnswersLines

@@ -1,103 +1,32 @@
--- The lower half, exact. Accounts as in proofs/Budget.antt, but as equations: from one message `y` of the identity on, what passed and what its bucket holds is a whole bucket and what the time
--- earned. A refill that is cut at the capacity begins a new account. A denial leaves less than one token. Assumes nothing.
-use mathlib.Core.Bool.{Bool, true, false, cond, _&&_}
+-- The lower half, exact. After a run the identity has not come, or one of its messages began an account (proofs/Account.antt) that all since have gone on with; so a message that is denied finds that
+-- from there on as many have passed as the upper half allows. Assumes nothing.
+use mathlib.Core.Bool.{Bool, true, false, _&&_}
 use mathlib.Core.List.{List, [], _∷_, _++_, append-assoc, append-nil}
-use mathlib.Core.Logic.{_⊎_, inl, inr, ⊎-elim}
+use mathlib.Core.Logic.{⊎-elim}
 use mathlib.Core.Path.{_≡_, refl, sym, ap, _∙_}
 use Prim.Native.Nat.{ℕ, _+_, _-_, _*_, _/_, _<_, _≤_}
 use native.Mathlib.Nat.{sub-add-cancel, add-zero, le-trans}
 use native.Mathlib.Omega.{arith}
 use borrow.Author.Tests.{lt-ltb, ltb-true}
 use lib.Dec.{ltb}
-use lib.ListN.{length, set, length-set}
-use lib.Seq.{getD-set-same, getD-set-other}
-use Rattle.laws.proofs.Tests.{both, fails}
+use lib.ListN.{length}
+use Rattle.laws.proofs.Tests.{both}
 use Rattle.laws.proofs.Cases.{by}
-use Rattle.laws.proofs.Lists.{each}
-use Rattle.tables.specs.Buckets.{spend, noBucket, holdsBucket, made}
 use Rattle.tables.specs.Identity.{idOf, isOf}
 use Rattle.tables.specs.declared.identity.Id.{Id}
 use Rattle.tables.specs.declared.buckets.RateBucket.{RateBucket}
-use Rattle.tables.proofs.buckets.BucketLaws.{level, one, Good, spends, exactly, makes, wait}
-use Rattle.tables.proofs.identity.IdentityLaws.{OfTopic}
-use Rattle.tables.proofs.buckets.StepLaws.{bucketAt, Absent, first, Step, hit, put}
+use Rattle.tables.proofs.buckets.BucketLaws.{one}
+use Rattle.tables.proofs.buckets.StepLaws.{Absent, Step}
 use Rattle.monitor.specs.Runs.{Call, answer, afterBy, after}
 use Rattle.monitor.specs.declared.state.MqttMonitor.{MqttMonitor}
 use Rattle.theorems.specs.LowerExact.{NoRoom, LowerExact}
 use Rattle.theorems.specs.Run.{Matcher, time, isAllowed, used, rateOf, reaches, OneRate, next, allowedOf, arrived, noted}
+use Rattle.theorems.proofs.Account.{Account, quiet, own, begins, other, same-account}
 use Rattle.theorems.proofs.Cuts.{Timed, timed-le, From, from-start, until, since, after-two, arrived-two, rate-first, rate-rest, rate-head}
-use Rattle.theorems.proofs.Holders.{clash, Named, same-holder, no-holder, made-holder, not-mine, mine, absent-mine, absent-other}
+use Rattle.theorems.proofs.Holders.{clash, Named, absent-other}
 use Rattle.theorems.proofs.Seated.{arrives, arrives-le, room-turn, arrived-le, seated-run, first-allowed, step-of, seats-none}
-use Rattle.theorems.proofs.Seats.{Seats, free-seat, newcomer-room}
+use Rattle.theorems.proofs.Seats.{Seats}
 use Rattle.theorems.proofs.Turns.{Like, Turn, idle, stepped, of-used, rate-like, formed-there, turn, on, on-run, no-one, begin}
-
--- the identity's one bucket, and its account: `u` is what passed since counting began, and rate x the time when it did
-data Account (x : Id) (R : ℕ) (T : List RateBucket) (now u : ℕ) : Type 0 where
-  there :
-      (i : ℕ) (b : RateBucket) → i < length T → bucketAt T i ≡ b → holdsBucket x b ≡ true → ((j : ℕ) → holdsBucket x (bucketAt T j) ≡ true → j ≡ i)
-      → Good R now b → u + level b ≡ 1000000 * R + R * b .«last_refill_us» → Account x R T now u
-
-quiet : {x : Id} {R : ℕ} {T : List RateBucket} {now t u : ℕ} → now ≤ t → Account x R T now u → Account x R T t u
-quiet h (there i b l e m only g p) = there i b l e m only (wait g h) p
-
-module _ (x : Id) {R : ℕ} (T : List RateBucket) (k : ℕ) (c : RateBucket) (q : k < length T) where
-  place : (t u : ℕ) → holdsBucket x c ≡ true → ((j : ℕ) → (j ≡ k → ⊥) → holdsBucket x (bucketAt T j) ≡ false)
-      → Good R t c → u + level c ≡ 1000000 * R + R * c .«last_refill_us» → Account x R (set T k c) t u
-  place t u m away g h =
-      there k c (rw length-set q) (getD-set-same T k c noBucket q) m
-      (each noBucket T k c q (λ j d. holdsBucket x d ≡ true → j ≡ k) (λ _. refl) (λ j z p. clash p (away j z))) g h
-
-  beside : {now t u : ℕ} → now ≤ t → holdsBucket x c ≡ false → holdsBucket x (bucketAt T k) ≡ false → Account x R T now u → Account x R (set T k c) t u
-  beside h nc nk (there i b l e m only g p) =
-      let ne : k ≡ i → ⊥ = λ z. clash m (sym (ap (λ j. holdsBucket x (bucketAt T j)) z ∙ ap (holdsBucket x) e) ∙ nk) in
-      there i b (rw length-set l) (getD-set-other T k i c noBucket (λ z. ne (sym z)) ∙ e) m
-      (each noBucket T k c q (λ j d. holdsBucket x d ≡ true → j ≡ i) (λ z. clash z nc) (λ j _. only j)) (wait g h) p
-
--- what a message of the identity makes of its account: it goes on, or begins anew; a denial leaves no room
-record After (x : Id) (R : ℕ) (T′ : List RateBucket) (t u : ℕ) (ok : Bool) : Type 0 where
-  goes : Account x R T′ t (u + 1000000 * one ok) ⊎ Account x R T′ t (R * t + 1000000 * one ok)
-  room : ok ≡ false → 1000000 * R + R * t < u + 1000000
-
-module _ {T : List RateBucket} (n : Named T) (x : Id) {R : ℕ} {y : Id} (o : OfTopic y) {t : ℕ} where
-  own : {now u : ℕ} {T′ : List RateBucket} {ok : Bool} → isOf x y ≡ true → 0 < R → now ≤ t → Account x R T now u → Step T y R t T′ ok → After x R T′ t u ok
-  own {now} {u} s pos h (there i b l e m only g p) (hit k q w) =
-      let r : k ≡ i = only k (mine n x o s k ∙ w) in
-      let d : bucketAt T k ≡ b = ap (λ j. bucketAt T j) r ∙ e in
-      let f = wait g h in
-      let v = exactly R t b f in
-      let away : (j : ℕ) → (j ≡ k → ⊥) → holdsBucket x (bucketAt T j) ≡ false = λ j z. fails _ (λ c. z (only j c ∙ sym r)) in
-      let a : R * spend b t .bucket .«last_refill_us» ≡ R * t = ap (λ (n : ℕ). R * n) (v .now) in
-      rw d
-      (record {
-        goes =
-            ⊎-elim
-            (λ z. inl (place x T k (spend b t .bucket) q t (u + 1000000 * one (spend b t .ok)) (same-holder x b t ∙ m) away (spends R t b f .good) (omega arith)))
-            (λ z. inr (place x T k (spend b t .bucket) q t (R * t + 1000000 * one (spend b t .ok)) (same-holder x b t ∙ m) away (spends R t b f .good) (omega arith)))
-            (v .sums);
-        room =
-            λ z. let w = v .less z in
-            let none : one (spend b t .ok) ≡ 0 = ap one z in
-            ⊎-elim (λ j. omega arith) (λ j. omega arith) (v .sums);
-      })
-  own s pos h (there i b l e m only g p) (put k ok q a w) = clash m (rw e at (absent-mine n x o s a .none i))
-
-  begins : {T′ : List RateBucket} {ok : Bool} → isOf x y ≡ true → 0 < R → Absent x T → ok ≡ true → Step T y R t T′ ok → Account x R T′ t (R * t + 1000000)
-  begins s pos a z (hit k q w) = clash w (sym (mine n x o s k) ∙ a .none k)
-  begins s pos a z (put k true q v w) =
-      place x T k (made y R (first true R) t) q t (R * t + 1000000) (made-holder x y R (first true R) t ∙ s) (λ j _. a .none j) (makes y R t true pos .good) (omega arith)
-  begins s pos a z (put k false q v w) = clash z refl
-
-  -- a message of another, while there is room for all
-  other : {now u rate : ℕ} {T′ : List RateBucket} {ok : Bool} {l : List Id} → isOf x y ≡ false → now ≤ t → length T ≡ 32 → Seats T l → length (noted y l) ≤ 32
-      → Account x R T now u → Step T y rate t T′ ok → Account x R T′ t u
-  other s h z e f v (hit k q w) =
-      let nc = not-mine n x o s k w in beside x T k (spend (bucketAt T k) t .bucket) q h (same-holder x (bucketAt T k) t ∙ nc) nc v
-  other {rate = rate} s h z e f v (put k ok q a seat) =
-      let m = newcomer-room e o a in
-      beside x T k (made y rate (first ok rate) t) q h (made-holder x y rate (first ok rate) t ∙ s) (no-holder x (bucketAt T k) (free-seat e (omega arith) seat .empty)) v
-
-same-account : {x : Id} {R : ℕ} {T : List RateBucket} {now : ℕ} (u u′ : ℕ) → u ≡ u′ → Account x R T now u → Account x R T now u′
-same-account u u′ e v = rw (← e) v
 
 -- one message more at a run's end
 pub allowed-last : (matcher : Matcher) (m : MqttMonitor) (x : Id) (cs : List Call) (c : Call)
@@ -197,10 +126,11 @@ module _ (matcher : Matcher) (m₀ : MqttMonitor) (x : Id) (R : ℕ) where
       let v′ : Story (done ++ c ∷ []) (after matcher m₀ (done ++ c ∷ []) .«rate_buckets») (time c) = rw w (one-more done k c (h .0) q f fits v) in
       rw (append-assoc done (c ∷ []) cs) at (goes-on (done ++ c ∷ []) cs k′ (h .1) r f′ g v′)
 
-  -- the last call, denied
+  -- the last call, denied: its account leaves no room
   ends : {before : List Call} {T T′ : List RateBucket} {l : List Id} {z : Call} {ok : Bool}
       → Named T → length T ≡ 32 → Seats T l → length (noted (idOf (used z)) l) ≤ 32 → isOf x (idOf (used z)) ≡ true → 0 < R → From 0 (before ++ z ∷ [])
-      → Story before T (time z) → Step T (idOf (used z)) R (time z) T′ ok → ok ≡ false → NoRoom (reaches matcher m₀ x) (λ earlier. allowedOf matcher (after matcher m₀ earlier) x) R before z
+      → Story before T (time z) → Step T (idOf (used z)) R (time z) T′ ok → ok ≡ false
+      → NoRoom (reaches matcher m₀ x) (λ earlier. allowedOf matcher (after matcher m₀ earlier) x) R before z
   ends {z = z} n len f g e pos o (unseen a) st d = clash (first-allowed n x (of-used z) e len f g a st) d
   ends {before = before} {z = z} n len f g e pos o (told pre mid y c r v) st d =
       let w : From 0 (pre ++ y ∷ (mid ++ z ∷ [])) = rw (append-assoc pre (y ∷ mid) (z ∷ [])) at (rw c at o) in
