@@ -1,5 +1,5 @@
-//! benchtraces: whole traces, text in and text out, by the archive and by the Rust driver over the original, for
-//! bin/measure.
+//! benchtraces: whole traces, text in and text out, by the archive and by the Rust driver over the original with
+//! buckets of request C-17 (oracle/opened/kept.rs), for bin/measure.
 //!   benchtraces write FOLDER    writes the traces that we measure with, a file each
 //!   benchtraces count FILE..    each twice by either side, two rows counted by the message: with the room that is
 //!                               promised to take one pass, and with a buffer of exactly the answer's length

@@ -44,6 +44,13 @@ pub const APART: Maker = ("dollar names and empty last levels", apart, &["kind 3
 /// The maker for the original's own TimestampValidator.
 pub const CLOCK: Maker = ("the original's own verdicts", real_clock, &["kind 1", "kind 5", "kind 8"]);
 
+/// The maker of traces on which the original's own buckets agree with those of request C-17.
+pub const MARKS: Maker =
+    ("times on whole token marks", marks, &["kind 5", "bucket replaced", "bucket expired", "clock back"]);
+
+/// The maker of traces on which they mostly do not.
+pub const GUIDERS: Maker = ("guiders at a steady pace", guiders, &["kind 5", "remainder kept", "clock back"]);
+
 /// The maker of the one trace that the programs are measured with.
 pub const NIGHT: Maker = ("a full night", night, &[]);
 
@@ -157,6 +164,12 @@ pub fn make(maker: &Maker, seed: u64, pairs: &Pairs) -> Vec<u8> {
     let mut scene = Scene { random: Random(seed), pairs, clock, full: false, text: Vec::new() };
     maker.1(&mut scene);
     scene.text
+}
+
+/// The same trace without the limiter: the rate of every rule is 0.
+pub fn unlimited(text: &[u8]) -> Vec<u8> {
+    let lines = text.split_inclusive(|&byte| byte == b'\n');
+    lines.flat_map(|line| if line.starts_with(b"rate=") { b"rate=0\n" } else { line }).copied().collect()
 }
 
 /// Full tables of rules, in which one pattern is odd, at each place in turn: no UTF-8, alone or with another fault; or
@@ -301,6 +314,65 @@ fn rates(scene: &mut Scene) {
     for _ in 0..120 {
         now += scene.random.pick(&steps);
         scene.publish(now, b"32");
+    }
+}
+
+/// The shortest time that earns whole tokens.
+fn mark(rate: u16) -> u64 {
+    let (mut divisor, mut rest) = (1_000_000, u64::from(rate));
+    while rest > 0 {
+        (divisor, rest) = (rest, divisor % rest);
+    }
+    1_000_000 / divisor
+}
+
+/// A Publish of a limited topic comes at a mark of its rate, so that a refill leaves no part of a token; all else comes
+/// at any time. The clock goes on by marks, to the end of a bucket or past it, or back. There may be more topics than
+/// places.
+fn marks(scene: &mut Scene) {
+    let rates = [(); 4].map(|()| scene.random.pick(&[1, 1, 2, 3, 4, 5, 7, 8, 10, 100, 1000, 65_534, 65_535]));
+    let limited = |(i, &rate): (usize, &u16)| allow(format!("r{i}/+").as_bytes(), rate);
+    let mut rules: Vec<Rule> = rates.iter().enumerate().map(limited).collect();
+    rules[0].qos = scene.random.pick(&POLICIES);
+    rules.extend([allow(b"free/+", 0), Rule { block: true, ..allow(b"no/#", 1) }]);
+    scene.opening(0, &rules);
+    let topics = scene.random.pick(&[1, 2, 12, 40]);
+    let mut now: u64 = scene.random.pick(&[0, 1_000_000_000, u64::MAX - 100_000_000_000]);
+    for _ in 0..250 {
+        let rule = scene.random.below(4);
+        let mark = mark(rates[rule]);
+        let far = [1_000_000, 20_000_000, 300_000_000, 300_000_000 + mark];
+        let near = [0, 0, 0, 0, 0, mark, mark, 2 * mark];
+        let step = if scene.random.one_in(20) { scene.random.pick(&far) } else { scene.random.pick(&near) };
+        now = if scene.random.one_in(8) { now.saturating_sub(step) } else { now + step };
+        let topic = format!("r{rule}/{}", scene.random.below(topics));
+        let any = scene.random.pick(&["free/a", "no/a", "r0/+", "$a", "r1/0", ""]).as_bytes();
+        let (size, payload, later) = (scene.size(), scene.payload(), now + scene.random.below(1000) as u64);
+        match scene.random.below(10) {
+            0 => scene.message(CONNECT, later, any, size, &payload),
+            1 => scene.message(SUBSCRIBE, later, any, size, &payload),
+            2 => scene.message(PUBLISH, later, b"free/a", size, &payload),
+            _ => scene.message(PUBLISH, now / mark * mark, topic.as_bytes(), size, &payload),
+        }
+    }
+}
+
+/// Topics that publish at a steady pace around their rate once the first burst is spent, no more of them than there are
+/// places: most refills leave a part of a token.
+fn guiders(scene: &mut Scene) {
+    let rate: u16 = scene.random.pick(&[1, 2, 3, 5, 7, 10, 30]);
+    scene.opening(0, &[allow(b"guider/+", rate)]);
+    let topics = if rate < 4 { scene.random.pick(&[1, 2, 32]) } else { 1 };
+    let token = 1_000_000 / usize::from(rate);
+    let pace = (token / 4 + scene.random.below(2 * token)) as u64 / topics;
+    let mut now = scene.random.pick(&[0, 1_000_000, 1 << 40]);
+    for turn in 0..u64::from(rate) * topics {
+        scene.publish(now, format!("guider/{}", turn % topics).as_bytes());
+    }
+    for turn in 0..150 {
+        now += pace;
+        let at = if scene.random.one_in(16) { now.saturating_sub(3 * pace) } else { now };
+        scene.publish(at, format!("guider/{}", turn % topics).as_bytes());
     }
 }
 
