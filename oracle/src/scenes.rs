@@ -327,8 +327,8 @@ fn mark(rate: u16) -> u64 {
 }
 
 /// A Publish of a limited topic comes at a mark of its rate, so that a refill leaves no part of a token; all else comes
-/// at any time. The clock goes on by marks, to the end of a bucket or past it, or back. There may be more topics than
-/// places.
+/// at any time. The clock goes on at the pace of the first rate, to the end of a bucket or past it, or back. There may
+/// be more topics than places.
 fn marks(scene: &mut Scene) {
     let rates = [(); 4].map(|()| scene.random.pick(&[1, 1, 2, 3, 4, 5, 7, 8, 10, 100, 1000, 65_534, 65_535]));
     let limited = |(i, &rate): (usize, &u16)| allow(format!("r{i}/+").as_bytes(), rate);
@@ -340,10 +340,14 @@ fn marks(scene: &mut Scene) {
     let mut now: u64 = scene.random.pick(&[0, 1_000_000_000, u64::MAX - 100_000_000_000]);
     for _ in 0..250 {
         let rule = scene.random.below(4);
-        let mark = mark(rates[rule]);
+        let (mark, pace) = (mark(rates[rule]), mark(rates[0]));
         let far = [1_000_000, 20_000_000, 300_000_000, 300_000_000 + mark];
-        let near = [0, 0, 0, 0, 0, mark, mark, 2 * mark];
-        let step = if scene.random.one_in(20) { scene.random.pick(&far) } else { scene.random.pick(&near) };
+        let step = match scene.random.below(30) {
+            0 => scene.random.pick(&far),
+            1..4 => pace,
+            4..6 => 2 * pace,
+            _ => 0,
+        };
         now = if scene.random.one_in(8) { now.saturating_sub(step) } else { now + step };
         let topic = format!("r{rule}/{}", scene.random.below(topics));
         let any = scene.random.pick(&["free/a", "no/a", "r0/+", "$a", "r1/0", ""]).as_bytes();

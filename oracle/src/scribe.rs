@@ -50,11 +50,7 @@ pub const MAKERS: &[Maker] = &[
     ("many alerts at once", many_alerts, &["four alerts at once", "hash in an alert"]),
     ("names in every type", names, &["type 15", "kind 9", "kind 10", "kind 11", "inspect_claimed refused 9"]),
     ("by hand: counters", counters, &["id wrapped", "inspected at its cap", "alerts at their cap"]),
-    (
-        "by hand: number 10",
-        number_10,
-        &["inspect refused 10", "validate_rules refused 10", "remainder over 999,999 in a free place"],
-    ),
+    ("by hand: number 10", number_10, &["inspect refused 10", "validate_rules refused 10"]),
     (
         "by hand: records",
         records,
@@ -513,8 +509,10 @@ fn spoil(scribe: &mut Scribe) {
     let tracker = held_place(scribe, 16, |monitor, place| state::tracker(monitor, place).is_some());
     let window = held_place(scribe, 16, |monitor, place| state::window(monitor, place).is_some());
     let count = scribe.play.original.monitor.rule_count();
+    // Mostly a free place, which may have any remainder.
+    let free = 3 + scribe.random.below(29);
     let remainder: u32 = scribe.random.pick(&[999_999, 1_000_000, u32::MAX]);
-    let line = match scribe.random.below(10) {
+    let line = match scribe.random.below(9) {
         0 => format!("rule_count {}", scribe.random.pick(&[count + 1, 31, 32, 33, 65_535])),
         1 => format!("rule_live {rule} 0"),
         2 => format!("rule_length {rule} {}", scribe.random.pick(&[0, 1, 63, 64, 65, 255])),
@@ -527,9 +525,7 @@ fn spoil(scribe: &mut Scribe) {
         4 => format!("bucket_prefix {bucket} {}", scribe.random.pick(&[31, 32, 33, 255])),
         5 => format!("tracker_prefix {tracker} {}", scribe.random.pick(&[31, 32, 33, 255])),
         6 => format!("window_count {window} {}", scribe.random.pick(&[15, 16, 17, 255])),
-        7 => format!("remainder {bucket} {remainder}"),
-        // Mostly a free place, which may have any.
-        8 => format!("remainder {} {remainder}", 3 + scribe.random.below(29)),
+        7 => format!("remainder {} {remainder}", scribe.random.pick(&[bucket, bucket, free])),
         _ => format!("bucket_live {bucket} {}", scribe.random.below(2)),
     };
     scribe.line(line);
@@ -553,6 +549,8 @@ fn mend(scribe: &mut Scribe) {
 
 /// Some rules and records, then one thing spoilt, every call tried, and mended.
 fn number_10(scribe: &mut Scribe) {
+    // So that there are buckets.
+    scribe.rule(b"+", "allow", "any", 2);
     for _ in 0..12 {
         let turns: [Turn; 5] = [add_rule, add_rule, publish, publish, connect];
         scribe.random.pick(&turns)(scribe);
@@ -574,8 +572,8 @@ fn set_record(scribe: &mut Scribe) {
     let (rule, place) = (some_place(scribe, 32), some_place(scribe, 16));
     let flag = scribe.random.below(2);
     let any = scribe.random.below(1_000_000);
-    let line = match scribe.random.below(16) {
-        0 => format!("tokens {rule} {}", scribe.random.pick(&[0, 1, 2, 65_534, 65_535])),
+    let line = match scribe.random.below(17) {
+        0 | 14 => format!("tokens {rule} {}", scribe.random.pick(&[0, 1, 2, 3, 65_534, 65_535])),
         1 => format!("bucket_live {rule} {flag}"),
         2 => format!("bucket_prefix {rule} {}", scribe.random.pick(&[0, 1, 2, 31, 32])),
         3 => format!("tracker_live {place} {flag}"),
