@@ -7,13 +7,15 @@
 
 mod hub;
 mod make;
+mod pairs;
 mod rows;
 mod scenes;
 mod stack;
 mod tally;
 
+use pairs::Pairs;
 use rows::row;
-use scenes::{MAKERS, NIGHT, Pairs};
+use scenes::{MAKERS, NIGHT};
 use std::fmt::Write;
 use std::hint::black_box;
 use std::path::Path;

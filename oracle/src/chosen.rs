@@ -5,7 +5,8 @@
 
 use crate::make::LIKE_NOBODY;
 use crate::met::Met;
-use crate::scenes::{self, MAKERS, Pair, Pairs};
+use crate::pairs::{Pair, Pairs};
+use crate::scenes::{self, MAKERS};
 use std::fmt::Write;
 use vs_mqtt_monitor::opened::djb2_hash;
 

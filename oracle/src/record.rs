@@ -28,6 +28,7 @@
 mod chosen;
 mod make;
 mod met;
+mod pairs;
 mod scenes;
 mod tally;
 

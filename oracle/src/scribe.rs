@@ -5,8 +5,8 @@
 use crate::answers::{NEW, NEW_DENY_DEFAULT, hex};
 use crate::make::{BROKEN, LIKE_NOBODY, among, pattern};
 use crate::met::Met;
+use crate::pairs::{Pairs, reblocked};
 use crate::play::Play;
-use crate::scenes::{Pairs, reblocked};
 use crate::tally::Random;
 use vs_mqtt_monitor::{MqttMonitor, state};
 

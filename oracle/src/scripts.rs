@@ -6,14 +6,14 @@
 mod answers;
 mod make;
 mod met;
+mod pairs;
 mod play;
-mod scenes;
 mod scribe;
 mod tally;
 
 use met::Met;
+use pairs::Pairs;
 use play::Play;
-use scenes::Pairs;
 use scribe::{MAKERS, Maker};
 use std::io::{Read, Write};
 use std::process::{Command, Stdio};

@@ -8,12 +8,14 @@ mod damage;
 mod hub;
 mod make;
 mod met;
+mod pairs;
 mod scenes;
 mod tally;
 
 use hub::HubTrace;
 use met::Met;
-use scenes::{APART, CLOCK, GUIDERS, MAKERS, MARKS, Maker, NIGHT, Pairs};
+use pairs::Pairs;
+use scenes::{APART, CLOCK, GUIDERS, MAKERS, MARKS, Maker, NIGHT};
 use tally::{Class, Random};
 use trace::End;
 use vs_mqtt_monitor::matcher::STANDARD;
