@@ -3,7 +3,7 @@
 
 /// The private state of a monitor.
 pub mod state {
-    use super::{EwmaTracker, MAX_CONNECT_WINDOW, MqttMonitor, QosPolicy, RateBucket, TopicAction, TopicRule};
+    use super::{EwmaTracker, MAX_CONNECT_WINDOW, MqttMonitor, QosPolicy, RateBucket, TopicAction, TopicRule, step};
 
     /// What tells the topic of a bucket or tracker from others.
     #[derive(PartialEq)]
@@ -33,6 +33,7 @@ pub mod state {
         pub live: bool,
         pub tokens: u16,
         pub capacity: u16,
+        pub remainder: u32,
         pub at: u64,
         pub id: Id,
     }
@@ -87,6 +88,7 @@ pub mod state {
             live: bucket.active,
             tokens: bucket.tokens,
             capacity: bucket.capacity,
+            remainder: step::remainder(bucket),
             at: bucket.last_refill_us,
             id: Id {
                 hash: bucket.topic_hash,
@@ -170,6 +172,7 @@ pub mod state {
             "bucket_live" => monitor.rate_buckets[place].active = value == 1,
             "bucket_prefix" => monitor.rate_buckets[place].topic_prefix_len = value as u8,
             "tokens" => monitor.rate_buckets[place].tokens = value as u16,
+            "remainder" => return step::set_remainder(&mut monitor.rate_buckets[place], value as u32),
             "tracker_live" => monitor.ewma_trackers[place].active = value == 1,
             "tracker_prefix" => monitor.ewma_trackers[place].topic_prefix_len = value as u8,
             "mean" => monitor.ewma_trackers[place].mean_x256 = value as u32,

@@ -1,9 +1,9 @@
-//! What the Rust original answers to a line of a script, as crates/calls writes the port's answer. Four things are not
-//! the original's, which has no such number or leaves such bytes: 10 for a state that no call hands out, 9 for a lent
-//! topic or payload shorter than the part used, 36 for a pattern that is not UTF-8 (`trace::rules`), and zeros behind the
-//! pattern of a rule that is added (docs/DIFFERENCES.md). A line that is not understood, or a field that there is not,
-//! ends the program; so does a constructor of monitors that choose rules by another matcher than the original that this
-//! is built over.
+//! What the Rust original answers to a line of a script, as crates/calls writes the port's answer. Five things are not
+//! the original's, which has no such number, leaves such bytes or loses such parts: 10 for a state that no call hands
+//! out, 9 for a lent topic or payload shorter than the part used, 36 for a pattern that is not UTF-8 (`trace::rules`),
+//! zeros behind the pattern of a rule that is added, and a bucket's step with its remainder (oracle/opened/kept.rs);
+//! docs/DIFFERENCES.md has them all. A line that is not understood, or a field that there is not, ends the program; so
+//! does a constructor of monitors that choose rules by another matcher than the original that this is built over.
 
 use std::fmt::{Display, Formatter, Result as Written};
 use trace::rules::{add_rule, refusal};
@@ -21,12 +21,13 @@ const MATCH: &str = if matcher::STANDARD { "standard" } else { "port" };
 const FIELDS: [&str; 6] = ["next_id", "total_inspected", "total_alerts", "threshold", "window", "rule_count"];
 
 /// Fields of a record that a script may set.
-const RECORD_FIELDS: [&str; 11] = [
+const RECORD_FIELDS: [&str; 12] = [
     "rule_live",
     "rule_length",
     "bucket_live",
     "bucket_prefix",
     "tokens",
+    "remainder",
     "tracker_live",
     "tracker_prefix",
     "mean",
@@ -131,11 +132,16 @@ pub fn no_call_hands_out(monitor: &MqttMonitor) -> Option<&'static str> {
             _ => return Some("10: a pattern that add_rule refuses with 9"),
         }
     }
-    let long = |live, id: Id| live && id.prefix_len > 32;
-    if (0..32).any(|place| state::bucket(monitor, place).is_some_and(|bucket| long(bucket.live, bucket.id))) {
-        return Some("10: a bucket's prefix length over 32");
+    for bucket in (0..32).filter_map(|place| state::bucket(monitor, place)).filter(|bucket| bucket.live) {
+        if bucket.id.prefix_len > 32 {
+            return Some("10: a bucket's prefix length over 32");
+        }
+        if bucket.remainder > 999_999 {
+            return Some("10: a bucket's remainder over 999,999");
+        }
     }
-    if (0..16).any(|place| state::tracker(monitor, place).is_some_and(|tracker| long(tracker.live, tracker.id))) {
+    let long = |tracker: state::Tracker| tracker.live && tracker.id.prefix_len > 32;
+    if (0..16).any(|place| state::tracker(monitor, place).is_some_and(long)) {
         return Some("10: a tracker's prefix length over 32");
     }
     let over = (0..16).any(|place| state::window(monitor, place).is_some_and(|window| window.count > 16));
@@ -283,8 +289,9 @@ fn record(monitor: &MqttMonitor, table: &str, place: usize) -> Option<String> {
             format!("live={live} pattern={pattern} length={length} action={action} {policy} rate={}", rule.rate)
         }
         "buckets" => {
-            let state::Bucket { live, tokens, capacity, at, id } = state::bucket(monitor, place)?;
-            format!("live={} tokens={tokens} capacity={capacity} at={at} {}", live as u8, id_words(&id))
+            let state::Bucket { live, tokens, capacity, remainder, at, id } = state::bucket(monitor, place)?;
+            let (live, id) = (live as u8, id_words(&id));
+            format!("live={live} tokens={tokens} capacity={capacity} remainder={remainder} at={at} {id}")
         }
         "trackers" => {
             let state::Tracker { live, mean, samples, at, id } = state::tracker(monitor, place)?;

@@ -1,6 +1,6 @@
 //! benchloop: inspections in a loop that owns the state, with no text around them, by the archive of `loops` and by the
-//! Rust original, for bin/measure. Both get the same topics, size and rules (crates/loops/src/inspections.rt), and must
-//! allow the same number of messages.
+//! Rust original with buckets of request C-17 (oracle/opened/kept.rs), for bin/measure. Both get the same topics, size
+//! and rules (crates/loops/src/inspections.rt), and must allow the same number of messages.
 //!   benchloop count                          each cell for two lengths, by either side
 //!   benchloop stack                          the deepest stack of either side, its start included
 //!   benchloop hub|rust RULES TOPICS COUNT    one loop, for callgrind by function or gdb

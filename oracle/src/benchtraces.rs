@@ -1,5 +1,5 @@
-//! benchtraces: whole traces, text in and text out, by the archive and by the Rust driver over the original, for
-//! bin/measure.
+//! benchtraces: whole traces, text in and text out, by the archive and by the Rust driver over the original with
+//! buckets of request C-17 (oracle/opened/kept.rs), for bin/measure.
 //!   benchtraces write FOLDER    writes the traces that we measure with, a file each
 //!   benchtraces count FILE..    each twice by either side, two rows counted by the message: with the room that is
 //!                               promised to take one pass, and with a buffer of exactly the answer's length
@@ -7,13 +7,15 @@
 
 mod hub;
 mod make;
+mod pairs;
 mod rows;
 mod scenes;
 mod stack;
 mod tally;
 
+use pairs::Pairs;
 use rows::row;
-use scenes::{MAKERS, NIGHT, Pairs};
+use scenes::{MAKERS, NIGHT};
 use std::fmt::Write;
 use std::hint::black_box;
 use std::path::Path;

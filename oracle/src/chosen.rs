@@ -1,10 +1,12 @@
 //! The traces whose answers are recorded: small ones, made by hand around document 01's rules, one subject each, and
 //! a few of the random makers' with the first seed that does. Each names what it must meet on its way through the
-//! original; together they must meet all of `met::all`. No seed is fresh: a second run makes the same bytes.
+//! original, whose buckets are those of request C-17; together they must meet all of `met::all`. No seed is fresh: a
+//! second run makes the same bytes.
 
 use crate::make::LIKE_NOBODY;
 use crate::met::Met;
-use crate::scenes::{self, MAKERS, Pair, Pairs};
+use crate::pairs::{Pair, Pairs};
+use crate::scenes::{self, MAKERS};
 use std::fmt::Write;
 use vs_mqtt_monitor::opened::djb2_hash;
 
@@ -112,11 +114,22 @@ fn limits(list: &mut Vec<Chosen>) {
     let rate = |rate: u32| opening("allow", &[&format!("m/+ allow any {rate}")]);
     let p9 = [0, 0, 0, 500_000, 999_999, 1_000_000];
     rate(2).at(PUBLISH, &p9, b"m/a").end(list, "rate-2-of-P9", &["kind 5"]);
-    // No refill, so the refill time stays.
+    // What is less than a token is not lost by a message that is denied.
     let edges = [0, 999_999, 1_000_000, 1_500_000, 1_999_999, 2_000_000, 9_000_000, 9_000_000];
     rate(1).at(PUBLISH, &edges, b"m/a").end(list, "rate-1-around-each-token", &["kind 5"]);
     let thirds = [0, 0, 0, 333_333, 333_334, 666_667, 666_668, 1_000_002, 5_000_000, 5_000_000, 5_000_000, 5_000_000];
-    rate(3).at(PUBLISH, &thirds, b"m/a").end(list, "rate-3-rounds-down", &["kind 5"]);
+    rate(3).at(PUBLISH, &thirds, b"m/a").end(list, "rate-3-keeps-what-a-third-leaves", &["kind 5", "remainder kept"]);
+    // Request C-17's guider: 0.8 tokens each time, four messages of five.
+    let guider = [0, 0, 400_000, 800_000, 1_200_000, 1_600_000, 2_000_000, 2_400_000];
+    rate(2).at(PUBLISH, &guider, b"m/a").end(list, "the-guider-of-C-17", &["kind 5", "remainder kept"]);
+    let full = [0, 1_999_999, 2_000_000];
+    rate(1).at(PUBLISH, &full, b"m/a").end(list, "a-full-bucket-drops-the-rest", &["kind 5", "remainder dropped"]);
+    let spent = [5_000_000, 4_000_000, 5_000_000, 5_000_000, 5_333_333, 5_333_334];
+    rate(3).at(PUBLISH, &spent, b"m/a").end(
+        list,
+        "a-token-is-spent-when-the-clock-goes-back",
+        &["kind 5", "clock back", "token spent when the clock went back"],
+    );
     let back = [5_000_000, 5_000_000, 4_000_000, 5_999_999, 0, 6_000_000, 6_500_000, 7_000_000];
     rate(1).at(PUBLISH, &back, b"m/a").end(list, "limiter-when-the-clock-goes-back", &["kind 5", "clock back"]);
     let far = [u64::MAX - 1, u64::MAX, u64::MAX, 0, 1_000_000, u64::MAX];
@@ -165,11 +178,21 @@ fn evictions(list: &mut Vec<Chosen>) {
         "idle-for-1-us-more-is-expired",
         &["kind 5", "bucket expired"],
     );
-    // A denied message moves no refill time: m/0 is as idle as before, m/1 is not.
-    full(1, 0)
-        .each(PUBLISH, 999_999, 1, ["m/0", "m/1"])
-        .each(PUBLISH, 300_000_002, 0, ["m/32", "m/33", "m/1", "m/0"])
-        .end(list, "a-denied-message-does-not-keep-a-bucket", &["kind 5", "bucket expired"]);
+    // A denied message moves the time: m/0 is idle since its second one, replaced after 300 s and expired 1 us later.
+    let denied = || {
+        let rate = opening("allow", &["m/+ allow any 1"]);
+        rate.at(PUBLISH, &[0, 999_999], b"m/0").each(PUBLISH, 1_000_000, 0, names(1, 31))
+    };
+    denied().at(PUBLISH, &[300_999_999], b"m/32").end(
+        list,
+        "a-denied-message-keeps-a-bucket",
+        &["kind 6", "bucket replaced", "time moved by a denied message"],
+    );
+    denied().at(PUBLISH, &[301_000_000], b"m/32").end(
+        list,
+        "a-denied-message-keeps-it-for-300-s",
+        &["kind 5", "bucket expired"],
+    );
     full(1, 10_000_000).each(PUBLISH, 400_000_000, 0, names(32, 12)).end(
         list,
         "expired-first-then-replaced",
@@ -180,7 +203,8 @@ fn evictions(list: &mut Vec<Chosen>) {
         "a-full-table-when-the-clock-goes-back",
         &["kind 6", "bucket replaced", "clock back"],
     );
-    // The largest rate runs dry in a place that was replaced: 15 us are less than one token, 16 are more.
+    // The largest rate runs dry in a place that was replaced: 15 us are less than one token, 16 are more, and so are 15
+    // with what those left.
     full(65_535, 0).at(PUBLISH, &[0, 15, 16, 31, 46, 47, 47], b"m/32").end(
         list,
         "rate-65535-by-tokens",

@@ -3,7 +3,8 @@
 
 use std::collections::BTreeMap;
 use trace::End;
-use vs_mqtt_monitor::{MqttInspectResult, MqttMonitor, matcher, opened, state};
+use vs_mqtt_monitor::state::{self, Bucket};
+use vs_mqtt_monitor::{MqttInspectResult, MqttMonitor, matcher, opened};
 use vs_types_embedded::{MqttMessage, MqttPacketType};
 
 pub const KINDS: [&str; 12] = [
@@ -11,6 +12,9 @@ pub const KINDS: [&str; 12] = [
     "kind 11",
 ];
 pub const PLACES: [&str; 4] = ["bucket replaced", "bucket expired", "client replaced", "tracker replaced"];
+/// What a message did to the bucket that it found (request C-17).
+pub const STEPS: [&str; 4] =
+    ["remainder kept", "remainder dropped", "time moved by a denied message", "token spent when the clock went back"];
 const ENDS: [&str; 10] =
     ["end 0", "end 9", "end 21", "end 22", "end 23", "end 24", "end 25", "end 26", "end 27", "end 36"];
 
@@ -28,7 +32,7 @@ pub struct Met(BTreeMap<&'static str, u64>);
 pub fn all() -> impl Iterator<Item = &'static str> {
     let more =
         ["end 28", "four alerts at once", "hash in an alert", "rule overwritten", "clock back", "traces", "messages"];
-    KINDS[1..].iter().copied().chain(PLACES).chain(ENDS).chain(more).chain(choices())
+    KINDS[1..].iter().copied().chain(PLACES).chain(STEPS).chain(ENDS).chain(more).chain(choices())
 }
 
 /// What only monitors meet that choose rules by MQTT 3.1.1; nothing where the original is one that does not.
@@ -48,7 +52,7 @@ impl Met {
     /// The answer of the Rust driver; what happened in it is counted.
     pub fn expected(&mut self, text: &[u8]) -> (End, Vec<u8>) {
         let mut out = Vec::new();
-        let mut before = [None; 64];
+        let (mut before, mut held) = ([None; 64], Vec::new());
         let patterns = text.split(|&byte| byte == b'\n').filter(|line| line.starts_with(b"pattern="));
         let (mut last, rules) = (0, patterns.count());
         let end = trace::run_watched(text, &mut out, |monitor, message, result| {
@@ -59,6 +63,7 @@ impl Met {
             self.count_alerts(result);
             self.count_choice(monitor, message);
             before = self.count_places(before, monitor, result);
+            held = self.count_step(&held, monitor, message, result);
         });
         self.count("traces", 1);
         let name = ENDS.iter().find(|name| name[4..] == end.number.to_string());
@@ -122,4 +127,32 @@ impl Met {
         }
         now
     }
+
+    /// Counts what a message did to the bucket that it found: the one that is another now, and its holder's as before.
+    pub fn count_step(
+        &mut self,
+        before: &[Option<Bucket>],
+        monitor: &MqttMonitor,
+        message: &MqttMessage,
+        result: &MqttInspectResult,
+    ) -> Vec<Option<Bucket>> {
+        let (now, after) = (message.timestamp_us, buckets(monitor));
+        let both = before.iter().zip(&after).filter_map(|(before, after)| Some((before.as_ref()?, after.as_ref()?)));
+        for (before, after) in both.filter(|(before, after)| before != after && before.id == after.id) {
+            let elapsed = now.saturating_sub(before.at);
+            let due = u128::from(elapsed) * u128::from(before.capacity) + u128::from(before.remainder);
+            let denied = result.alerts.iter().any(|alert| alert.source_id == 5);
+            self.count("remainder kept", (after.remainder > 0).into());
+            self.count("remainder dropped", (due % 1_000_000 > 0 && after.remainder == 0).into());
+            self.count("time moved by a denied message", (denied && before.at < after.at).into());
+            self.count("token spent when the clock went back", (now < before.at && !denied).into());
+            self.count("tokens above the capacity cut", (before.tokens > before.capacity).into());
+        }
+        after
+    }
+}
+
+/// The buckets, place by place.
+pub fn buckets(monitor: &MqttMonitor) -> Vec<Option<Bucket>> {
+    (0..32).map(|place| state::bucket(monitor, place)).collect()
 }

@@ -2,7 +2,7 @@
 //! says to it, and what happened on the way.
 
 use crate::answers::{Answer, NEW, NEW_DENY_DEFAULT, Original, no_call_hands_out};
-use crate::met::{KINDS, Met, PLACES, choices};
+use crate::met::{KINDS, Met, PLACES, STEPS, buckets, choices};
 use std::panic::{AssertUnwindSafe, catch_unwind};
 use vs_mqtt_monitor::{opened, state};
 
@@ -53,18 +53,19 @@ const REFUSALS: [&str; 19] = [
 ];
 
 /// Why a state is refused with 10.
-const REASONS: [&str; 8] = [
+const REASONS: [&str; 9] = [
     "10: rule count over 32",
     "10: a rule that counts is not live",
     "10: pattern length over 64",
     "10: a pattern that add_rule refuses with 9",
     "10: a pattern that is not UTF-8",
     "10: a bucket's prefix length over 32",
+    "10: a bucket's remainder over 999,999",
     "10: a tracker's prefix length over 32",
     "10: a window's count over 16",
 ];
 
-const MORE: [&str; 20] = [
+const MORE: [&str; 22] = [
     "calls",
     "four alerts at once",
     "hash in an alert",
@@ -74,6 +75,8 @@ const MORE: [&str; 20] = [
     "16 trackers",
     "bucket removed",
     "tracker removed",
+    "remainder over 999,999 in a free place",
+    "tokens above the capacity cut",
     "pattern overwritten",
     "listed difference: bytes behind an added pattern",
     "rules shadowed",
@@ -91,7 +94,7 @@ const MORE: [&str; 20] = [
 pub fn all() -> impl Iterator<Item = &'static str> {
     let kinds = KINDS[1..].iter().copied();
     let calls = CALLS.into_iter().chain(TYPES).chain(REFUSALS).chain(REASONS);
-    calls.chain(kinds).chain(PLACES).chain(MORE).chain(choices())
+    calls.chain(kinds).chain(PLACES).chain(STEPS).chain(MORE).chain(choices())
 }
 
 /// A script on its way.
@@ -115,6 +118,8 @@ impl Play<'_> {
         let holders = opened::holders(&self.original.monitor);
         let (rules, reason) = (self.original.monitor.rule_count(), no_call_hands_out(&self.original.monitor));
         let (next_id, stale) = (state::settings(&self.original.monitor).3, self.original.stale);
+        let buckets = buckets(&self.original.monitor);
+        let far = buckets.iter().flatten().any(|bucket| !bucket.live && bucket.remainder > 999_999);
         let answer = catch_unwind(AssertUnwindSafe(|| self.original.answer(&line)));
         let answer = answer.unwrap_or_else(|_| Answer::Text(" (the original panics)".into()));
         self.said += &format!("{line} ->{answer}\nall ->{}\n", self.original.answer("all"));
@@ -124,6 +129,8 @@ impl Play<'_> {
             self.met.count("calls", 1);
         }
         let monitor = &self.original.monitor;
+        let taken = matches!(answer, Answer::Done(_) | Answer::Inspected(..));
+        self.met.count("remainder over 999,999 in a free place", (far && taken).into());
         match &answer {
             Answer::Text(_) => {}
             Answer::Done(shadowed) => {
@@ -148,6 +155,7 @@ impl Play<'_> {
                 self.met.count_alerts(result);
                 self.met.count_choice(monitor, message);
                 self.met.count_places(holders, monitor, result);
+                self.met.count_step(&buckets, monitor, message, result);
                 self.met.count("id wrapped", (state::settings(monitor).3 < next_id).into());
                 self.met.count("inspected at its cap", (monitor.total_inspected() == u64::MAX).into());
                 let at_cap = monitor.total_alerts() == u64::MAX && result.alert_count > 0;

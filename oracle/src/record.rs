@@ -1,6 +1,6 @@
 //! record: answers of the Rust original to a fixed list of questions, corners first, one to a line. `oracle/record`
 //! writes them to crates/replay/stdin, and crates/replay asks the port the same with no Rust at hand. No question is
-//! random: a second run writes the same bytes.
+//! random: a second run writes the same bytes. In whole traces the original's buckets are those of request C-17.
 //!
 //! Fields are parted by one blank; bytes are lower case hex, `-` for none; hashes are 8 hex digits each, the most
 //! significant first, and the payload hash its 32 bytes in order.
@@ -28,6 +28,7 @@
 mod chosen;
 mod make;
 mod met;
+mod pairs;
 mod scenes;
 mod tally;
 

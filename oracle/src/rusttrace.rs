@@ -1,5 +1,5 @@
-//! rusttrace: the Rust original as a program, a trace on standard input and its answer on standard output, as
-//! `hubtrace` does it for the port.
+//! rusttrace: the Rust original, with buckets of request C-17 (oracle/opened/kept.rs), as a program: a trace on
+//! standard input and its answer on standard output, as `hubtrace` does it for the port.
 
 use std::io::{Read, Write, stdin, stdout};
 

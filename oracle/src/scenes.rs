@@ -1,14 +1,13 @@
 //! Random traces, one maker for each thing that the monitor does. A maker aims at the edges of its subject; what it
 //! then really met is counted by the comparison, and `MAKERS` names what each must have met.
 
-use crate::make::{BLOCKS, BROKEN, EDGES, LIKE_NOBODY, among, pattern, topic};
+use crate::make::{BROKEN, EDGES, LIKE_NOBODY, among, pattern, topic};
+use crate::pairs::{Pairs, reblocked};
 use crate::tally::Random;
 use clock_types::TimestampValidator;
 use std::io::Write;
 use trace::LONGEST;
 use trace::rules::refusal;
-use vs_mqtt_monitor::opened::djb2_hash;
-use vs_types_embedded::fnv1a_hash;
 
 const CONNECT: u8 = 1;
 const PUBLISH: u8 = 3;
@@ -44,87 +43,15 @@ pub const APART: Maker = ("dollar names and empty last levels", apart, &["kind 3
 /// The maker for the original's own TimestampValidator.
 pub const CLOCK: Maker = ("the original's own verdicts", real_clock, &["kind 1", "kind 5", "kind 8"]);
 
+/// The maker of traces on which the original's own buckets agree with those of request C-17.
+pub const MARKS: Maker =
+    ("times on whole token marks", marks, &["kind 5", "bucket replaced", "bucket expired", "clock back"]);
+
+/// The maker of traces on which they mostly do not.
+pub const GUIDERS: Maker = ("guiders at a steady pace", guiders, &["kind 5", "remainder kept", "clock back"]);
+
 /// The maker of the one trace that the programs are measured with.
 pub const NIGHT: Maker = ("a full night", night, &[]);
-
-/// Pairs of topics with equal FNV-1a, and but for the last with equal djb2 too.
-pub struct Pairs {
-    /// Equal length, different among the first 32 bytes or just in the last of them: two identities.
-    pub apart: Vec<Pair>,
-    /// Equal length and first 32 bytes: one identity.
-    pub one: Vec<Pair>,
-    /// Equal first 32 bytes and suffix hash: two identities by their length alone.
-    pub by_length: Vec<Pair>,
-    /// Two clients, by their djb2 alone.
-    pub by_djb2: Vec<Pair>,
-}
-
-pub type Pair = [Vec<u8>; 2];
-
-impl Pairs {
-    pub fn search() -> Pairs {
-        // djb2 of this prefix is its start, so that behind it djb2 and the suffix hash are the same.
-        let prefix = completed(&[b'p'; 25], 5381);
-        let lengths: [&[u8]; 2] = [b"", b"x"];
-        let longer = lengths
-            .iter()
-            .flat_map(|middle| blocks_after(&prefix).map(move |start| completed(&[&start[..], middle].concat(), 5381)));
-        let mut apart = colliding(blocks_after(b""));
-        apart.extend(colliding(blocks_after(&[b'p'; 31])).into_iter().filter(|[a, b]| a[31] != b[31]));
-        let mut by_length = colliding(longer);
-        by_length.retain(|[a, b]| a.len() != b.len());
-        let mut random = Random(1);
-        let by_djb2 = colliding((0..300_000).map(|_| random.bytes(12, b"abcdefgh")));
-        let pairs = Pairs { apart, one: colliding(blocks_after(&[b'p'; 32])), by_length, by_djb2 };
-        assert!(pairs.apart.iter().any(|[a, _]| a.len() > 32), "no pair that differs in byte 32");
-        assert!(pairs.one.iter().any(|[a, b]| a[32] != b[32]), "no pair that differs in byte 33");
-        assert!(!pairs.by_length.is_empty(), "no pair that differs in length");
-        assert!(pairs.by_djb2.iter().any(|[a, b]| djb2_hash(a) != djb2_hash(b)), "no pair that differs in djb2");
-        pairs
-    }
-
-    pub fn pick(&self, random: &mut Random) -> &Pair {
-        let kind = [&self.apart, &self.one, &self.one, &self.by_length][random.below(4)];
-        &kind[random.below(kind.len())]
-    }
-}
-
-/// The prefix with eleven two-byte blocks, in every way: all of them have one djb2.
-fn blocks_after(prefix: &[u8]) -> impl Iterator<Item = Vec<u8>> {
-    (0..3usize.pow(11)).map(move |choice| {
-        let blocks = (0..11).flat_map(|place| &BLOCKS[choice / 3usize.pow(place) % 3]);
-        prefix.iter().chain(blocks).copied().collect()
-    })
-}
-
-/// The bytes with seven more, so that their djb2 is `target`: what is missing, written in base 33.
-fn completed(start: &[u8], target: u32) -> Vec<u8> {
-    let mut missing = target.wrapping_sub(djb2_hash(&[start, b"AAAAAAA"].concat()));
-    let mut last = [b'A'; 7];
-    for letter in last.iter_mut().rev() {
-        *letter += (missing % 33) as u8;
-        missing /= 33;
-    }
-    let whole = [start, &last].concat();
-    assert_eq!(djb2_hash(&whole), target);
-    whole
-}
-
-/// The topic with its last block made another: djb2 stays, FNV-1a does not.
-pub fn reblocked(topic: &[u8]) -> Vec<u8> {
-    let which = |two: &[u8]| BLOCKS.iter().position(|block| block == two);
-    let place = topic.windows(2).rposition(|two| which(two).is_some()).expect("a topic of blocks");
-    let next = which(&topic[place..place + 2]).map_or(0, |block| (block + 1) % 3);
-    [&topic[..place], &BLOCKS[next], &topic[place + 2..]].concat()
-}
-
-/// Those of the topics that share FNV-1a with another.
-fn colliding(topics: impl Iterator<Item = Vec<u8>>) -> Vec<Pair> {
-    let mut hashed: Vec<(u32, Vec<u8>)> = topics.map(|topic| (fnv1a_hash(&topic), topic)).collect();
-    hashed.sort_unstable();
-    let equal = hashed.windows(2).filter(|two| two[0].0 == two[1].0);
-    equal.map(|two| [two[0].1.clone(), two[1].1.clone()]).collect()
-}
 
 /// A trace in the making.
 pub struct Scene<'a> {
@@ -157,6 +84,12 @@ pub fn make(maker: &Maker, seed: u64, pairs: &Pairs) -> Vec<u8> {
     let mut scene = Scene { random: Random(seed), pairs, clock, full: false, text: Vec::new() };
     maker.1(&mut scene);
     scene.text
+}
+
+/// The same trace without the limiter: the rate of every rule is 0.
+pub fn unlimited(text: &[u8]) -> Vec<u8> {
+    let lines = text.split_inclusive(|&byte| byte == b'\n');
+    lines.flat_map(|line| if line.starts_with(b"rate=") { b"rate=0\n" } else { line }).copied().collect()
 }
 
 /// Full tables of rules, in which one pattern is odd, at each place in turn: no UTF-8, alone or with another fault; or
@@ -301,6 +234,69 @@ fn rates(scene: &mut Scene) {
     for _ in 0..120 {
         now += scene.random.pick(&steps);
         scene.publish(now, b"32");
+    }
+}
+
+/// The shortest time that earns whole tokens.
+fn mark(rate: u16) -> u64 {
+    let (mut divisor, mut rest) = (1_000_000, u64::from(rate));
+    while rest > 0 {
+        (divisor, rest) = (rest, divisor % rest);
+    }
+    1_000_000 / divisor
+}
+
+/// A Publish of a limited topic comes at a mark of its rate, so that a refill leaves no part of a token; all else comes
+/// at any time. The clock goes on at the pace of the first rate, to the end of a bucket or past it, or back. There may
+/// be more topics than places.
+fn marks(scene: &mut Scene) {
+    let rates = [(); 4].map(|()| scene.random.pick(&[1, 1, 2, 3, 4, 5, 7, 8, 10, 100, 1000, 65_534, 65_535]));
+    let limited = |(i, &rate): (usize, &u16)| allow(format!("r{i}/+").as_bytes(), rate);
+    let mut rules: Vec<Rule> = rates.iter().enumerate().map(limited).collect();
+    rules[0].qos = scene.random.pick(&POLICIES);
+    rules.extend([allow(b"free/+", 0), Rule { block: true, ..allow(b"no/#", 1) }]);
+    scene.opening(0, &rules);
+    let topics = scene.random.pick(&[1, 2, 12, 40]);
+    let mut now: u64 = scene.random.pick(&[0, 1_000_000_000, u64::MAX - 100_000_000_000]);
+    for _ in 0..250 {
+        let rule = scene.random.below(4);
+        let (mark, pace) = (mark(rates[rule]), mark(rates[0]));
+        let far = [1_000_000, 20_000_000, 300_000_000, 300_000_000 + mark];
+        let step = match scene.random.below(30) {
+            0 => scene.random.pick(&far),
+            1..4 => pace,
+            4..6 => 2 * pace,
+            _ => 0,
+        };
+        now = if scene.random.one_in(8) { now.saturating_sub(step) } else { now + step };
+        let topic = format!("r{rule}/{}", scene.random.below(topics));
+        let any = scene.random.pick(&["free/a", "no/a", "r0/+", "$a", "r1/0", ""]).as_bytes();
+        let (size, payload, later) = (scene.size(), scene.payload(), now + scene.random.below(1000) as u64);
+        match scene.random.below(10) {
+            0 => scene.message(CONNECT, later, any, size, &payload),
+            1 => scene.message(SUBSCRIBE, later, any, size, &payload),
+            2 => scene.message(PUBLISH, later, b"free/a", size, &payload),
+            _ => scene.message(PUBLISH, now / mark * mark, topic.as_bytes(), size, &payload),
+        }
+    }
+}
+
+/// Topics that publish at a steady pace around their rate once the first burst is spent, no more of them than there are
+/// places: most refills leave a part of a token.
+fn guiders(scene: &mut Scene) {
+    let rate: u16 = scene.random.pick(&[1, 2, 3, 5, 7, 10, 30]);
+    scene.opening(0, &[allow(b"guider/+", rate)]);
+    let topics = if rate < 4 { scene.random.pick(&[1, 2, 32]) } else { 1 };
+    let token = 1_000_000 / usize::from(rate);
+    let pace = (token / 4 + scene.random.below(2 * token)) as u64 / topics;
+    let mut now = scene.random.pick(&[0, 1_000_000, 1 << 40]);
+    for turn in 0..u64::from(rate) * topics {
+        scene.publish(now, format!("guider/{}", turn % topics).as_bytes());
+    }
+    for turn in 0..150 {
+        now += pace;
+        let at = if scene.random.one_in(16) { now.saturating_sub(3 * pace) } else { now };
+        scene.publish(at, format!("guider/{}", turn % topics).as_bytes());
     }
 }
 

@@ -5,8 +5,8 @@
 use crate::answers::{NEW, NEW_DENY_DEFAULT, hex};
 use crate::make::{BROKEN, LIKE_NOBODY, among, pattern};
 use crate::met::Met;
+use crate::pairs::{Pairs, reblocked};
 use crate::play::Play;
-use crate::scenes::{Pairs, reblocked};
 use crate::tally::Random;
 use vs_mqtt_monitor::{MqttMonitor, state};
 
@@ -29,7 +29,21 @@ pub const MAKERS: &[Maker] = &[
         rules,
         &["32 rules", "add_rule refused 6", "add_rule refused 9", "add_rule refused 36", "rules shadowed"],
     ),
-    ("buckets", buckets, &["32 buckets", "bucket replaced", "bucket expired", "bucket removed", "kind 5"]),
+    (
+        "buckets",
+        buckets,
+        &[
+            "32 buckets",
+            "bucket replaced",
+            "bucket expired",
+            "bucket removed",
+            "kind 5",
+            "remainder kept",
+            "remainder dropped",
+            "time moved by a denied message",
+            "token spent when the clock went back",
+        ],
+    ),
     ("clients", clients, &["16 clients", "client replaced", "kind 1", "window of 16"]),
     ("trackers", trackers, &["16 trackers", "tracker replaced", "tracker removed", "kind 7", "mean at its ceiling"]),
     ("equal hashes", equal_hashes, &["bucket removed", "tracker removed", "kind 1", "kind 5"]),
@@ -40,7 +54,14 @@ pub const MAKERS: &[Maker] = &[
     (
         "by hand: records",
         records,
-        &["listed difference: bytes behind an added pattern", "255 samples", "kind 5", "kind 7"],
+        &[
+            "listed difference: bytes behind an added pattern",
+            "255 samples",
+            "kind 5",
+            "kind 7",
+            "remainder kept",
+            "tokens above the capacity cut",
+        ],
     ),
 ];
 
@@ -135,7 +156,9 @@ impl Scribe<'_> {
             4 => vec![self.now.saturating_add(self.random.pick(&[60_000_000, 300_000_000, 4_000_000_000]))],
             5..9 => vec![self.now],
             _ => {
-                let step = self.random.pick(&[1, 1000, 250_000, 499_999, 500_000, 999_999, 1_000_000, 1_000_001]);
+                // Most leave a part of a token, by any rate.
+                let step =
+                    self.random.pick(&[1, 15, 1000, 250_000, 400_000, 499_999, 500_000, 999_999, 1_000_000, 1_000_001]);
                 vec![self.now.saturating_add(step)]
             }
         };
@@ -486,7 +509,10 @@ fn spoil(scribe: &mut Scribe) {
     let tracker = held_place(scribe, 16, |monitor, place| state::tracker(monitor, place).is_some());
     let window = held_place(scribe, 16, |monitor, place| state::window(monitor, place).is_some());
     let count = scribe.play.original.monitor.rule_count();
-    let line = match scribe.random.below(8) {
+    // Mostly a free place, which may have any remainder.
+    let free = 3 + scribe.random.below(29);
+    let remainder: u32 = scribe.random.pick(&[999_999, 1_000_000, u32::MAX]);
+    let line = match scribe.random.below(9) {
         0 => format!("rule_count {}", scribe.random.pick(&[count + 1, 31, 32, 33, 65_535])),
         1 => format!("rule_live {rule} 0"),
         2 => format!("rule_length {rule} {}", scribe.random.pick(&[0, 1, 63, 64, 65, 255])),
@@ -499,6 +525,7 @@ fn spoil(scribe: &mut Scribe) {
         4 => format!("bucket_prefix {bucket} {}", scribe.random.pick(&[31, 32, 33, 255])),
         5 => format!("tracker_prefix {tracker} {}", scribe.random.pick(&[31, 32, 33, 255])),
         6 => format!("window_count {window} {}", scribe.random.pick(&[15, 16, 17, 255])),
+        7 => format!("remainder {} {remainder}", scribe.random.pick(&[bucket, bucket, free])),
         _ => format!("bucket_live {bucket} {}", scribe.random.below(2)),
     };
     scribe.line(line);
@@ -514,6 +541,7 @@ fn mend(scribe: &mut Scribe) {
     }
     for place in 0..3 {
         scribe.line(format!("bucket_prefix {place} 3"));
+        scribe.line(format!("remainder {place} 0"));
         scribe.line(format!("tracker_prefix {place} 3"));
         scribe.line(format!("window_count {place} 4"));
     }
@@ -521,6 +549,8 @@ fn mend(scribe: &mut Scribe) {
 
 /// Some rules and records, then one thing spoilt, every call tried, and mended.
 fn number_10(scribe: &mut Scribe) {
+    // So that there are buckets.
+    scribe.rule(b"+", "allow", "any", 2);
     for _ in 0..12 {
         let turns: [Turn; 5] = [add_rule, add_rule, publish, publish, connect];
         scribe.random.pick(&turns)(scribe);
@@ -541,8 +571,9 @@ fn number_10(scribe: &mut Scribe) {
 fn set_record(scribe: &mut Scribe) {
     let (rule, place) = (some_place(scribe, 32), some_place(scribe, 16));
     let flag = scribe.random.below(2);
-    let line = match scribe.random.below(14) {
-        0 => format!("tokens {rule} {}", scribe.random.pick(&[0, 1, 2, 65_534, 65_535])),
+    let any = scribe.random.below(1_000_000);
+    let line = match scribe.random.below(17) {
+        0 | 14 => format!("tokens {rule} {}", scribe.random.pick(&[0, 1, 2, 3, 65_534, 65_535])),
         1 => format!("bucket_live {rule} {flag}"),
         2 => format!("bucket_prefix {rule} {}", scribe.random.pick(&[0, 1, 2, 31, 32])),
         3 => format!("tracker_live {place} {flag}"),
@@ -556,6 +587,7 @@ fn set_record(scribe: &mut Scribe) {
         9 => format!("window_next {place} {}", scribe.random.pick(&[0, 1, 15, 16, 17, 255])),
         10 => format!("threshold {}", scribe.random.pick(&[0, 1, 2, 17, 255])),
         11 => format!("window {}", scribe.random.pick(&[0, 1, 60_000_000, u64::MAX])),
+        12 | 13 => format!("remainder {rule} {}", scribe.random.pick(&[0, 1, 999_998, 999_999, any, any])),
         // Rules that are no longer counted, over which others are added.
         _ => {
             let count = scribe.play.original.monitor.rule_count();

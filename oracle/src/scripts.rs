@@ -1,18 +1,19 @@
 //! scripts PROGRAM [--seed N]: random scripts of calls through the built program of crates/calls against the Rust
-//! original: every answer, and every field of the state after each line. What the scripts met is counted; anything
-//! that was never met is a failure. Over an original that chooses rules by MQTT 3.1.1 the scripts make monitors that do.
+//! original with buckets of request C-17: every answer, and every field of the state after each line. What the scripts
+//! met is counted; anything that was never met is a failure. Over an original that chooses rules by MQTT 3.1.1 the
+//! scripts make monitors that do.
 
 mod answers;
 mod make;
 mod met;
+mod pairs;
 mod play;
-mod scenes;
 mod scribe;
 mod tally;
 
 use met::Met;
+use pairs::Pairs;
 use play::Play;
-use scenes::Pairs;
 use scribe::{MAKERS, Maker};
 use std::io::{Read, Write};
 use std::process::{Command, Stdio};

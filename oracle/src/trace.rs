@@ -1,9 +1,11 @@
 //! The Rust driver of a whole trace: it reads the text of document 01's section "The trace", feeds the original
 //! monitor and writes the answer. It is what `hub_trace` is compared with, byte by byte, and what its speed is
-//! measured against. Built over each variant of the original: over `clock` the verdicts of the text are ignored.
+//! measured against. Built over each variant of the original: over `clock` the verdicts of the text are ignored, and
+//! over all but `untouched` a bucket's step is not the original's but that of request C-17 (oracle/opened/kept.rs).
 
 pub mod rules;
 
+pub use vs_mqtt_monitor::step::KEPT;
 use vs_mqtt_monitor::{MqttInspectResult, MqttMonitor, QosPolicy, TopicAction};
 use vs_types_embedded::{MqttMessage, MqttPacketType, MqttQoS, opened};
 

@@ -1,17 +1,21 @@
 //! traces [--seed N]: whole traces through the archive's `hub_trace` against the Rust driver over the original
-//! monitor, every byte of every answer. What the traces met is counted; anything that was never met is a failure. Over
-//! an original that chooses rules by MQTT 3.1.1 it is `hub_trace_standard` that is compared.
+//! monitor, every byte of every answer. What the traces met is counted; anything that was never met is a failure. A
+//! bucket's step is that of request C-17; the original with its own step still decides traces on which both must agree,
+//! and must answer some others otherwise. Over an original that chooses rules by MQTT 3.1.1 it is `hub_trace_standard`
+//! that is compared, and none has its own step.
 
 mod damage;
 mod hub;
 mod make;
 mod met;
+mod pairs;
 mod scenes;
 mod tally;
 
 use hub::HubTrace;
 use met::Met;
-use scenes::{APART, CLOCK, MAKERS, Maker, Pairs};
+use pairs::Pairs;
+use scenes::{APART, CLOCK, GUIDERS, MAKERS, MARKS, Maker, NIGHT};
 use tally::{Class, Random};
 use trace::End;
 use vs_mqtt_monitor::matcher::STANDARD;
@@ -20,8 +24,15 @@ use vs_mqtt_monitor::matcher::STANDARD;
 const HUB_TRACE: fn(&[u8], &mut [u8]) -> HubTrace = if STANDARD { hub::trace_standard } else { hub::trace };
 const HUB_TRACE_LENGTH: fn(&[u8]) -> HubTrace = if STANDARD { hub::trace_standard_length } else { hub::trace_length };
 
-/// Traces of each maker, for each seed.
+/// A Rust driver.
+type Driver = fn(&[u8], &mut Vec<u8>) -> End;
+
+// Each driver is over the buckets that it is meant to be.
+const _: () = assert!(trace::KEPT && clock_trace::KEPT && !untouched_trace::KEPT);
+
+/// Traces of each maker, for each seed; of each without the limiter.
 const TURNS: usize = 100;
+const UNLIMITED_TURNS: usize = 20;
 
 /// Document 01's example and its answer.
 const EXAMPLE: &str = "default=allow\nrules=1\npattern=6d2f2b\naction=allow\nqos=any\nrate=1\n\
@@ -44,6 +55,11 @@ fn main() {
             run.scene(maker, seed, &mut random, &pairs);
         }
         run.clock(seed, &mut random, &pairs);
+        if !STANDARD {
+            run.marks(seed, &mut random, &pairs);
+            run.unlimited(seed, &mut random, &pairs);
+            run.lost_parts(seed, &mut random, &pairs);
+        }
     }
     run.met();
     if !tally::report(&run.classes) {
@@ -125,14 +141,77 @@ impl Run {
         self.classes.push(class);
     }
 
+    /// Times at which a refill leaves no part of a token.
+    fn marks(&mut self, seed: u64, random: &mut Random, pairs: &Pairs) {
+        let name = format!("the untouched original: {}, seed {seed}", MARKS.0);
+        let texts = (0..TURNS).map(|_| scenes::make(&MARKS, random.next(), pairs)).collect();
+        self.untouched(name, texts, MARKS.2);
+    }
+
+    /// The traces of every maker, and full nights, with the rate of every rule at 0.
+    fn unlimited(&mut self, seed: u64, random: &mut Random, pairs: &Pairs) {
+        let name = format!("the untouched original: nights without the limiter, seed {seed}");
+        let makers = MAKERS.iter().chain([&APART, &NIGHT]).flat_map(|maker| [maker; UNLIMITED_TURNS]);
+        let texts = makers.map(|maker| scenes::unlimited(&scenes::make(maker, random.next(), pairs))).collect();
+        let must = ["kind 1", "kind 2", "kind 3", "kind 4", "kind 7", "kind 8", "kind 9", "kind 10", "kind 11"];
+        self.untouched(name, texts, &must);
+    }
+
+    /// Traces that the original decides with its own buckets, and the one with those of C-17 alike.
+    fn untouched(&mut self, name: String, texts: Vec<Vec<u8>>, must: &[&str]) {
+        let mut class = Class::new(name);
+        let before: Vec<u64> = must.iter().map(|what| self.met.times(what)).collect();
+        for text in texts {
+            let told = self.met.expected(&text);
+            let mut found = Vec::new();
+            let end = untouched(&text, &mut found);
+            self.judge(&mut class, &text, 0, untouched, end, &found);
+            if told != (end, found) {
+                class.differ(text.len(), || "the two variants of the original differ".into());
+            }
+        }
+        for (what, before) in must.iter().zip(before) {
+            class.seen(what, self.met.times(what) - before);
+        }
+        self.classes.push(class);
+    }
+
+    /// The listed difference: the port answers as C-17 has it, and some traces otherwise than the original does with
+    /// its own buckets. That loses parts of tokens, so where they first part it denies a Publish with 5 that the port
+    /// allows. Later it may be the other way about, since the port has spent a token more.
+    fn lost_parts(&mut self, seed: u64, random: &mut Random, pairs: &Pairs) {
+        let mut class = Class::new(format!("listed difference: the lost part of a token, {}, seed {seed}", GUIDERS.0));
+        let before: Vec<u64> = GUIDERS.2.iter().map(|what| self.met.times(what)).collect();
+        let mut apart = 0;
+        for _ in 0..TURNS {
+            let text = scenes::make(&GUIDERS, random.next(), pairs);
+            self.compare(&mut class, &text, 0);
+            match parted(&text) {
+                Some(Parted::Denied) => apart += 1,
+                Some(Parted::Otherwise(said)) => class.differ(text.len(), || said),
+                None => {}
+            }
+        }
+        class.seen("traces that the original answers otherwise", apart);
+        for (what, before) in GUIDERS.2.iter().zip(before) {
+            class.seen(what, self.met.times(what) - before);
+        }
+        self.classes.push(class);
+    }
+
     /// Compares the answers to one text: into a buffer with `spare` bytes too many, and into ones that are too short.
     fn compare(&mut self, class: &mut Class, text: &[u8], spare: usize) {
         let (end, expected) = self.met.expected(text);
-        match answered(text, end, &expected, spare) {
+        self.judge(class, text, spare, trace::run, end, &expected);
+    }
+
+    /// The same with what a driver said.
+    fn judge(&mut self, class: &mut Class, text: &[u8], spare: usize, driver: Driver, end: End, expected: &[u8]) {
+        match answered(text, end, expected, spare) {
             Ok(too_short) => self.met.count("end 28", too_short),
             Err(_) => {
-                let smaller = if class.clean() { shrink(text, spare) } else { text.to_vec() };
-                class.differ(smaller.len(), || saved(&smaller, spare, self.classes.len()));
+                let smaller = if class.clean() { shrink(text, spare, driver) } else { text.to_vec() };
+                class.differ(smaller.len(), || saved(&smaller, spare, driver, self.classes.len()));
             }
         }
         class.agree();
@@ -177,35 +256,70 @@ fn answered(text: &[u8], end: End, expected: &[u8], spare: usize) -> Result<u64,
     Ok(too_short)
 }
 
+/// The first line in which two answers differ, its number from 1 on.
+fn first_apart<'a>(hub: &'a [u8], rust: &'a [u8]) -> Option<(usize, &'a [u8], &'a [u8])> {
+    let lines = hub.split(|&byte| byte == b'\n').zip(rust.split(|&byte| byte == b'\n'));
+    (1..).zip(lines).find(|(_, (hub, rust))| hub != rust).map(|(number, (hub, rust))| (number, hub, rust))
+}
+
 /// Both ends, and the first line that differs; the port has room enough to say all.
 fn first_difference(text: &[u8], wanted: HubTrace, expected: &[u8]) -> String {
     let mut room = vec![0xa5; 1 << 20];
     let answer = HUB_TRACE(text, &mut room);
-    let hub = room[..answer.length].split(|&byte| byte == b'\n');
-    let (number, (hub, rust)) = (1..)
-        .zip(hub.zip(expected.split(|&byte| byte == b'\n')))
-        .find(|(_, (hub, rust))| hub != rust)
-        .unwrap_or((0, (b"", b"")));
+    let (number, hub, rust) = first_apart(&room[..answer.length], expected).unwrap_or((0, b"", b""));
     let (hub, rust) = (hub.escape_ascii(), rust.escape_ascii());
     format!("hub {answer:?}, expected {wanted:?}; line {number} of the answer: hub \"{hub}\", expected \"{rust}\"")
 }
 
+/// The driver over the original with its own buckets.
+fn untouched(text: &[u8], out: &mut Vec<u8>) -> End {
+    let untouched_trace::End { number, line } = untouched_trace::run(text, out);
+    End { number, line }
+}
+
+/// Where two answers part: the original denies a Publish with 5 that the port allows, or what is said.
+enum Parted {
+    Denied,
+    Otherwise(String),
+}
+
+/// Where the original with its own buckets first answers otherwise than the port, if it does.
+fn parted(text: &[u8]) -> Option<Parted> {
+    let (mut expected, mut limited) = (Vec::new(), Vec::new());
+    untouched_trace::run_watched(text, &mut expected, |_, message, result| {
+        let alerts = &result.alerts[..result.alert_count as usize];
+        limited.push(message.packet_type as u8 == 3 && alerts.iter().any(|alert| alert.source_id == 5));
+    });
+    let mut room = vec![0xa5; 1 << 20];
+    let length = HUB_TRACE(text, &mut room).length;
+    let (number, hub, rust) = first_apart(&room[..length], &expected)?;
+    let before = expected.split(|&byte| byte == b'\n').take(number);
+    let message = before.filter(|line| line.starts_with(b"n=")).count();
+    if (hub, rust) == (b"allowed=1", b"allowed=0") && limited[message - 1] {
+        return Some(Parted::Denied);
+    }
+    let (hub, rust) = (hub.escape_ascii(), rust.escape_ascii());
+    Some(Parted::Otherwise(format!(
+        "message {message}, line {number} of the answer: hub \"{hub}\", original \"{rust}\""
+    )))
+}
+
 /// What is wrong with the port's answers to a text, if anything.
-fn differs(text: &[u8], spare: usize) -> Option<String> {
+fn differs(text: &[u8], spare: usize, driver: Driver) -> Option<String> {
     let mut expected = Vec::new();
-    let end = trace::run(text, &mut expected);
+    let end = driver(text, &mut expected);
     answered(text, end, &expected, spare).err()
 }
 
 /// Leaves out lines for as long as the answers still differ, runs of whole messages first, with at most 3000 trials.
-fn shrink(text: &[u8], spare: usize) -> Vec<u8> {
+fn shrink(text: &[u8], spare: usize, driver: Driver) -> Vec<u8> {
     let mut lines: Vec<&[u8]> = text.split_inclusive(|&byte| byte == b'\n').collect();
     let (mut run, mut trials) = (lines.len() / 7 * 7, 3000);
     while run > 0 {
         let mut from = 0;
         while from + run <= lines.len() && trials > 0 {
             let fewer = [&lines[..from], &lines[from + run..]].concat();
-            if differs(&fewer.concat(), spare).is_some() {
+            if differs(&fewer.concat(), spare, driver).is_some() {
                 lines = fewer;
             } else {
                 from += if run < 7 { 1 } else { run };
@@ -218,9 +332,9 @@ fn shrink(text: &[u8], spare: usize) -> Vec<u8> {
 }
 
 /// Writes a text beside this program, and says where and what is wrong with its answer.
-fn saved(text: &[u8], spare: usize, number: usize) -> String {
+fn saved(text: &[u8], spare: usize, driver: Driver, number: usize) -> String {
     let matcher = if STANDARD { "standard-" } else { "" };
     let path = std::env::current_exe().unwrap().with_file_name(format!("differs-{matcher}{number}.trace"));
     std::fs::write(&path, text).unwrap();
-    format!("{} of {} bytes: {}", path.display(), text.len(), differs(text, spare).unwrap_or_default())
+    format!("{} of {} bytes: {}", path.display(), text.len(), differs(text, spare, driver).unwrap_or_default())
 }

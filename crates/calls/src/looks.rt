@@ -100,12 +100,13 @@ fn say_bucket(at: usize, bucket: RateBucket) {
     let live = put_number(out, 0, b"live", bucket.active as u64);
     let tokens = put_number(out, live, b"tokens", bucket.tokens as u64);
     let capacity = put_number(out, tokens, b"capacity", bucket.capacity as u64);
-    let time = put_number(out, capacity, b"at", bucket.last_refill_us);
+    let remainder = put_number(out, capacity, b"remainder", bucket.remainder as u64);
+    let time = put_number(out, remainder, b"at", bucket.last_refill_us);
     let end = put_id(out, time, id);
     say_line(
         at,
         upto(out, end),
-        b" live=0 tokens=0 capacity=0 at=0 hash=0 hash2=0 len=0 suffix=0 first=0 bytes=",
+        b" live=0 tokens=0 capacity=0 remainder=0 at=0 hash=0 hash2=0 len=0 suffix=0 first=0 bytes=",
     );
 }
 

@@ -1,7 +1,7 @@
 // Fields that a script may set, for states that no call hands out or that it would take too many calls to reach:
 //     next_id N · total_inspected N · total_alerts N · threshold N · window N · rule_count N
 //     rule_live PLACE 0|1 · rule_pattern PLACE PATTERN · rule_length PLACE N
-//     bucket_prefix PLACE N · bucket_live PLACE 0|1 · tokens PLACE N
+//     bucket_prefix PLACE N · bucket_live PLACE 0|1 · tokens PLACE N · remainder PLACE N
 //     tracker_prefix PLACE N · tracker_live PLACE 0|1 · mean PLACE N · samples PLACE N
 //     window_count PLACE N · window_next PLACE N
 use crate::looks;
@@ -45,6 +45,10 @@ fn set_bucket(bucket: RateBucket, name: &[u8], q: &[u8]) -> RateBucket {
     }
     if is(name, b"tokens") {
         next.tokens = number16(q, 2);
+        return next;
+    }
+    if is(name, b"remainder") {
+        next.remainder = number32(q, 2);
         return next;
     }
     let mut id = bucket.id;
@@ -158,7 +162,7 @@ pub fn ask(m: MqttMonitor, name: &[u8], q: &[u8]) -> MqttMonitor {
     }
     if is(
         name,
-        b"rule_live|rule_pattern|rule_length|bucket_prefix|bucket_live|tokens",
+        b"rule_live|rule_pattern|rule_length|bucket_prefix|bucket_live|tokens|remainder",
     ) {
         return set_at_32(m, name, q);
     }

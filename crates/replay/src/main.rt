@@ -1,6 +1,6 @@
-// Asks the port what the Rust original was asked, and compares. A line of standard input is one question with the answer recorded from the original (oracle/record): a
-// kind, fields with single blanks between, and the answer; `-` is a field with nothing. `leaves` has the questions on matching and hashes, `traces` those on whole
-// traces. The file `stdout` has what must come out: how many lines of each kind there are, so that none goes missing, and no line that differs.
+// Asks the port what the Rust original was asked, and compares. A line of standard input is one question with the answer recorded from the original, whose buckets are those
+// of request C-17 (oracle/record): a kind, fields with single blanks between, and the answer; `-` is a field with nothing. `leaves` has the questions on matching and hashes,
+// `traces` those on whole traces. The file `stdout` has what must come out: how many lines of each kind there are, so that none goes missing, and no line that differs.
 mod leaves;
 mod say;
 mod traces;
