@@ -23,10 +23,11 @@ pub mod step {
     /// Whether the message has a token, which it then spends.
     pub(super) fn spend(bucket: &mut RateBucket, now_us: u64) -> bool {
         // "A refill counts them": what the time earned, none if the clock went back, and what was kept.
+        // The product saturates, as the original's does: at 2^64 - 1 millionths any bucket is full.
         let elapsed = now_us.saturating_sub(bucket.last_refill_us);
-        let due = u128::from(elapsed) * u128::from(bucket.capacity) + u128::from(bucket.remainder);
-        let tokens = u128::from(bucket.tokens) + due / 1_000_000;
-        if tokens < u128::from(bucket.capacity) {
+        let due = elapsed.saturating_mul(bucket.capacity.into()).saturating_add(bucket.remainder.into());
+        let tokens = u64::from(bucket.tokens) + due / 1_000_000;
+        if tokens < bucket.capacity.into() {
             bucket.tokens = tokens as u16;
             bucket.remainder = (due % 1_000_000) as u32;
         } else {

@@ -92,6 +92,16 @@ pub fn unlimited(text: &[u8]) -> Vec<u8> {
     lines.flat_map(|line| if line.starts_with(b"rate=") { b"rate=0\n" } else { line }).copied().collect()
 }
 
+/// Messages of topics by their number, at their times, under one rate.
+pub fn limited(rate: u16, messages: &[(u64, usize)]) -> Vec<u8> {
+    let mut text = format!("default=allow\nrules=1\npattern=23\naction=allow\nqos=any\nrate={rate}\n").into_bytes();
+    for (at, topic) in messages {
+        let topic = hex(topic.to_string().as_bytes());
+        write!(text, "at={at}\nclock=ok\ntype=3\nqos=0\ntopic={topic}\nsize=0\npayload=\n").unwrap();
+    }
+    text
+}
+
 /// Full tables of rules, in which one pattern is odd, at each place in turn: no UTF-8, alone or with another fault; or
 /// UTF-8 of more than one byte a character, which is no fault.
 pub fn odd_patterns(pairs: &Pairs) -> Vec<Vec<u8>> {

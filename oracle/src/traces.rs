@@ -61,6 +61,9 @@ fn main() {
             run.lost_parts(seed, &mut random, &pairs);
         }
     }
+    if !STANDARD {
+        run.smallest();
+    }
     run.met();
     if !tally::report(&run.classes) {
         std::process::exit(1);
@@ -195,6 +198,28 @@ impl Run {
         class.seen("traces that the original answers otherwise", apart);
         for (what, before) in GUIDERS.2.iter().zip(before) {
             class.seen(what, self.met.times(what) - before);
+        }
+        self.classes.push(class);
+    }
+
+    /// The smallest inputs of docs/DIFFERENCES.md, 9 and 10: what the original says to the last message with its own
+    /// buckets, and what the port says.
+    fn smallest(&mut self) {
+        let mut class = Class::new("listed differences: smallest inputs of 9 and 10");
+        let kept = scenes::limited(2, &[(0, 0), (0, 0), (750_000, 0), (1_000_000, 0)]);
+        let crowd = (1..32).map(|topic| (1, topic));
+        let idle: Vec<(u64, usize)> = [(0, 0), (1, 0)].into_iter().chain(crowd).chain([(300_000_001, 32)]).collect();
+        for (text, original, port) in [(kept, 0, 1), (scenes::limited(1, &idle), 1, 0)] {
+            self.compare(&mut class, &text, 0);
+            let (mut found, mut said) = (Vec::new(), Vec::new());
+            trace::run(&text, &mut said);
+            untouched(&text, &mut found);
+            for (answer, wanted) in [(found, original), (said, port)] {
+                let verdicts = answer.split(|&byte| byte == b'\n').filter(|line| line.starts_with(b"allowed="));
+                if verdicts.last() != Some(format!("allowed={wanted}").as_bytes()) {
+                    class.differ(text.len(), || format!("the last message was to be allowed={wanted}"));
+                }
+            }
         }
         self.classes.push(class);
     }

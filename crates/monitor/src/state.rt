@@ -92,7 +92,7 @@ fn rules_fine(rules: [TopicRule; RULES], count: usize) -> bool
     true
 }
 
-// No live bucket has a prefix length over 32.
+// No live bucket has a prefix length over 32 or a remainder over 999,999.
 fn buckets_fine(buckets: [RateBucket; BUCKETS]) -> bool
     ensures { λ r. ⌜ r ≡ every bucketFine buckets ⌝ }
 {
