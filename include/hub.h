@@ -13,8 +13,8 @@
  * any thread. A bool is 0 or 1.
  *
  * Stack, in bytes below the caller, by measurement (rattle-kit-5b, x86-64; `bin/measure stack` measures again): those of
- * traces reach some 39,500 (39,458 when last measured so; the test of UTF-8 came since, and adds 32 in an emulator),
- * every other call at most 256, less not being told apart. Whole, cut and damaged traces were tried; by the disassembly
+ * traces reach 30,258, and reached 39,490 before change request C-17; every other call at most 256, less not being told
+ * apart. Whole, cut and damaged traces were tried; by the disassembly
  * no function of the archive calls itself, no frame grows with its input, and the frames add up to no more. */
 #ifndef HUB_H
 #define HUB_H
