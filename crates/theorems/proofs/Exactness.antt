@@ -48,7 +48,7 @@ shipped-exact p q x R before z o h r rz e =
       stretch = n .stretch;
       cut = n .cut;
       mine = n .mine;
-      spent = rw (one-matcher p (n .earlier) .left, passed-alike k (still p (n .earlier)) x (n .first ∷ n .stretch)) (n .spent);
+      passed = rw (one-matcher p (n .earlier) .left, passed-alike k (still p (n .earlier)) x (n .first ∷ n .stretch)) (n .passed);
     }
 
 gives-first : (f : Monitor) → ExactBy f → LowerBy f

@@ -35,7 +35,7 @@ module _ (reach : Call → Bool) (count : List Call → List Call → ℕ) (R : 
       (λ e. rw e (found (past ++ c ∷ []) earlier first stretch m (rw (← append-assoc past (c ∷ []) earlier) at s)))
 
   pub noticed : {run : List Call} → NoRoom reach count R run z → leavesNone [] run ≡ true
-  noticed n = rw (n .cut) (found [] (n .earlier) (n .first) (n .stretch) (n .mine) (n .spent))
+  noticed n = rw (n .cut) (found [] (n .earlier) (n .first) (n .stretch) (n .mine) (n .passed))
 
 -- a time's worth, in two parts
 parts : (R a b c : ℕ) → a ≤ b → b ≤ c → R * (c - a) ≡ R * (b - a) + R * (c - b)
@@ -141,5 +141,5 @@ module _ (matcher : Matcher) (p : MqttMonitor) (x : Id) (verdict : List Call →
       let f = k .last (n .earlier) (n .first ∷ n .stretch) z in
       let w : verdict (n .earlier ++ n .first ∷ n .stretch) z ≡ true = rw (n .cut) at v in
       let q : count (n .earlier) (n .first ∷ n .stretch ++ z ∷ []) ≡ count (n .earlier) (n .first ∷ n .stretch) + 1 = rw (rz, w) at f in
-      absurd (omega (arith, n .spent)))
+      absurd (omega (arith, n .passed)))
       (λ v. v)

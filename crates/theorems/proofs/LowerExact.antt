@@ -142,7 +142,7 @@ module _ (matcher : Matcher) (m₀ : MqttMonitor) (x : Id) (R : ℕ) where
         stretch = mid;
         cut = c;
         mine = r;
-        spent = omega (arith, ap (λ (k : ℕ). R * k) (sub-add-cancel h));
+        passed = omega (arith, ap (λ (k : ℕ). R * k) (sub-add-cancel h));
       }
 
 pub lower-exact : LowerExact

@@ -24,7 +24,7 @@ pub record NoRoom (reach : Call → Bool) (count : List Call → List Call → �
   pub stretch : List Call
   pub cut : run ≡ earlier ++ first ∷ stretch
   pub mine : reach first ≡ true
-  pub spent : R + R * (time z - time first) / 1000000 ≤ count earlier (first ∷ stretch)
+  pub passed : R + R * (time z - time first) / 1000000 ≤ count earlier (first ∷ stretch)
 
 -- under any matcher
 abbrev pub LowerExact : Type 0
