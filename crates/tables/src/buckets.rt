@@ -13,9 +13,10 @@ pub const BUCKETS: usize = 32;
 
 const LAST: usize = BUCKETS - 1;
 
-// How many millionths make a token, and the largest remainder that is none.
+// How many millionths make a token.
 const PARTS: u64 = 1_000_000;
 
+// The largest remainder: with one millionth more it is a token.
 const REMAINDER_MAX: u32 = 999_999;
 
 // How long it takes to fill any bucket, in microseconds: its capacity is earned in a second.
