@@ -1,3 +1,4 @@
+pub mod Acts
 pub mod Chosen
 pub mod Denied
 pub mod FoundLaws
@@ -11,7 +12,7 @@ pub mod Replies
 mod SoundBuckets
 pub mod SoundCalls
 mod SoundIds
-mod SoundInspect
+pub mod SoundInspect
 mod SoundMoves
 mod SoundRules
 mod SoundTrackers

@@ -21,6 +21,7 @@ use Rattle.tables.specs.declared.buckets.RateCheckResult.the-variants.{Allowed,
 use Rattle.tables.specs.declared.rules.TopicAction.{TopicAction}
 use Rattle.tables.specs.declared.rules.TopicRule.{TopicRule}
 use Rattle.tables.proofs.buckets.StepLaws.{grants, stored}
+use Rattle.monitor.specs.Chosen.{Keeps}
 use Rattle.monitor.specs.Gate.{isBlock, isTopical, endsEarly, deniedBy, goesOn, gateAfter, gateOf, rulingOf}
 use Rattle.monitor.specs.Inspect.{storedAt, applied, inspectRefusal, inspectWith}
 use Rattle.monitor.specs.Message.{typeNumber, usedTopic}
@@ -85,19 +86,20 @@ pub record SameRules (m n : MqttMonitor) : Type 0 where
   pub rules-same : n .rules ≡ m .rules
   pub count-same : n .«rule_count» ≡ m .«rule_count»
   pub default-same : n .«default_action» ≡ m .«default_action»
+  pub choice-same : Keeps m n
 
 module _ (matcher : List ℕ → List ℕ → Bool) (m : MqttMonitor) (msg : MqttMessage) (topic payload : List ℕ) where
   pub refused : eqb (inspectRefusal m msg topic payload) 0 ≡ false → inspectWith matcher m msg topic payload .monitor ≡ m
   unfolding inspectWith
   refused e = rw e
 
-  -- rules and the default stay
+  -- rules, the default and the matcher stay
   pub rules-stay : SameRules m (inspectWith matcher m msg topic payload .monitor)
   unfolding inspectWith applied
   rules-stay =
       by (eqb (inspectRefusal m msg topic payload) 0)
-      (λ e. rw e (record { rules-same = refl; count-same = refl; default-same = refl }))
-      (λ e. rw e (record { rules-same = refl; count-same = refl; default-same = refl }))
+      (λ e. rw e (record { rules-same = refl; count-same = refl; default-same = refl; choice-same = refl }))
+      (λ e. rw e (record { rules-same = refl; count-same = refl; default-same = refl; choice-same = refl }))
 
   -- where the gate hands out no rate
   pub not-asked : eqb (inspectRefusal m msg topic payload) 0 ≡ true → ltb 0 (gateIn matcher m msg (take (usedTopic msg) topic) .rate) ≡ false

@@ -1,3 +1,4 @@
+pub mod Acts
 pub mod Alerts
 pub mod Calls
 pub mod Chosen

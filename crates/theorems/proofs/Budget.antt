@@ -1,4 +1,4 @@
--- The upper half's invariant, and that every message keeps it. Accounts are in millionths of a token: `u` is what was used (1,000,000 for each allowed message of the
+-- The upper half's invariant, and that every message keeps it; a place made free costs a whole bucket more (request C-24). Accounts are in millionths of a token: `u` is what was used (1,000,000 for each allowed message of the
 -- identity and rate x the time at which counting began), `B` the budget (one whole bucket). Either the identity's one bucket is in the table, and what it holds is paid for
 -- or a whole bucket is to spare; or it was replaced when its time F was the least of all, and no live bucket is older than F, so that a full grant has to wait for
 -- 300 seconds after F; or it is not there and a whole bucket is to spare. In each case `u` is at most B + rate x now. Assumes nothing.
@@ -16,14 +16,14 @@ use lib.Seq.{getD-set-same, getD-set-other}
 use Rattle.laws.proofs.Tests.{fails}
 use Rattle.laws.proofs.Cases.{by}
 use Rattle.laws.proofs.Lists.{each}
-use Rattle.tables.specs.Buckets.{noBucket, holdsBucket, spend, made, isExpired}
+use Rattle.tables.specs.Buckets.{noBucket, emptyBucket, holdsBucket, spend, made, isExpired}
 use Rattle.tables.specs.Identity.{isOf}
 use Rattle.tables.specs.declared.identity.Id.{Id}
 use Rattle.tables.specs.declared.buckets.RateBucket.{RateBucket}
 use Rattle.tables.proofs.buckets.BucketLaws.{level, one, Good, spends, makes, keeps, wait}
 use Rattle.tables.proofs.identity.IdentityLaws.{OfTopic}
 use Rattle.tables.proofs.buckets.StepLaws.{bucketAt, timeAt, Absent, free, worn, first, Step, hit, put, expired}
-use Rattle.theorems.proofs.Holders.{clash, Named, same-holder, held-live, made-holder, not-mine, mine, absent-mine, absent-other}
+use Rattle.theorems.proofs.Holders.{clash, Named, same-holder, held-live, no-holder, made-holder, not-mine, mine, absent-mine, absent-other}
 
 pub data Inv (x : Id) (R : ℕ) (T : List RateBucket) (now u B : ℕ) : Type 0 where
   held :
@@ -82,6 +82,22 @@ module _ (x : Id) (T : List RateBucket) (k : ℕ) (c : RateBucket) (q : k < leng
   still-gone F a f live low on late p =
       gone F a f (rw length-set (each noBucket T k c q (λ j d. j < length T → d .active ≡ true) (λ _. on) (λ j _. live j)))
       (rw length-set (each noBucket T k c q (λ j d. j < length T → F ≤ d .«last_refill_us») (λ _. late) (λ j _. low j))) p
+
+-- a place made free, at the price of one whole bucket: it may have been the identity's own, or any other that was in its way
+module _ (x : Id) (T : List RateBucket) (k : ℕ) (q : k < length T) where
+  none-there : ((j : ℕ) → (j ≡ k → ⊥) → holdsBucket x (bucketAt T j) ≡ false) → Absent x (set T k emptyBucket)
+  none-there = still-absent x T k emptyBucket q (no-holder x emptyBucket refl)
+
+  paid : {R now u B : ℕ} → u ≤ B + R * now → Inv x R T now u B → Inv x R (set T k emptyBucket) now u (B + 1000000 * R)
+  paid w (held i b l e m only g p) =
+      by (eqb k i)
+      (λ z. let r : k ≡ i = eqb-true k i z in spare (none-there (λ j ne. fails _ (λ c. ne (only j c ∙ sym r)))) (omega arith))
+      (λ z. beside x T k emptyBucket q i b l e m only g (omega arith) (no-holder x emptyBucket refl) (eqb-false k i z) (inr (omega arith)))
+  paid w (gone F a f live low p) = spare (none-there (λ j _. a .none j)) (omega arith)
+  paid w (spare a p) = spare (none-there (λ j _. a .none j)) (omega arith)
+
+  pub cleared : {R now u B : ℕ} → Inv x R T now u B → Inv x R (set T k emptyBucket) now u (B + 1000000 * R)
+  cleared v = paid (bounded v) v
 
 -- an identity that comes back after it was replaced: an expired place is more than 300 seconds older than now
 back : (R t F : ℕ) (b : RateBucket) (ok : Bool) (u B : ℕ) → u ≤ B + R * F → F ≤ b .«last_refill_us» → F ≤ t → (ok ≡ true → isExpired b t ≡ true)

@@ -18,7 +18,7 @@ use Rattle.theorems.proofs.Cuts.{after-two, rate-silent}
 use Rattle.theorems.proofs.Follows.{Counts, first-room, later-room, no-room-denied}
 use Rattle.theorems.proofs.LowerExact.{lower-exact}
 use Rattle.theorems.proofs.Shipped.{still, passed-alike, verdict}
-use Rattle.theorems.proofs.Turns.{formed-there, on-run, begin}
+use Rattle.theorems.proofs.Turns.{on-run, begin}
 
 module _ (f : Monitor) (p : MqttMonitor) (x : Id) where
   -- the verdicts of a monitor's run, and what is counted of it
@@ -41,7 +41,7 @@ module _ (f : Monitor) (p : MqttMonitor) (x : Id) where
 shipped-exact : ExactBy shipped
 shipped-exact p q x R before z o h r rz e =
     let n = lower-exact (matcherOf p) p q x R before z o h r rz (sym (verdict p before z) ∙ e) in
-    let k = on-run (matcherOf p) (begin q (formed-there (matcherOf p) p x z rz)) (n .earlier) in
+    let k = on-run (matcherOf p) (begin q) (n .earlier) in
     record {
       earlier = n .earlier;
       first = n .first;

@@ -21,6 +21,8 @@ mod Lower
 mod LowerExact
 mod Printed
 mod Reach
+mod Removals
+mod Removed
 mod Seated
 mod Seats
 mod Shipped

@@ -12,7 +12,7 @@ use Rattle.theorems.specs.Run.{Matcher, isAllowed, rateOf, reaches, allo
 use Rattle.theorems.proofs.Cuts.{after-two, rate-silent}
 use Rattle.theorems.proofs.Follows.{Counts, first-room, later-room}
 use Rattle.theorems.proofs.LowerExact.{allowed-last, lower-exact}
-use Rattle.theorems.proofs.Turns.{Like, rate-like, formed-there, on-run, begin}
+use Rattle.theorems.proofs.Turns.{Like, rate-like, on-run, begin}
 use Rattle.theorems.proofs.Upper.{upper}
 
 module _ (matcher : Matcher) (m : MqttMonitor) (x : Id) where
@@ -49,5 +49,5 @@ lower-later matcher m p x R before between y z o h u ry s rz g =
     (λ e. e)
     (λ e.
     absurd
-    (later-room matcher m x (verdict matcher m x) (count matcher m x) (counts matcher m x (begin p (formed-there matcher m x z rz))) (upper matcher m p x) R y z between ry s g
+    (later-room matcher m x (verdict matcher m x) (count matcher m x) (counts matcher m x (begin p)) (upper matcher m p x) R y z between ry s g
     before o u (lower-exact matcher m p x R (before ++ y ∷ between) z o h u rz e)))

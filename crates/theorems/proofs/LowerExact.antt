@@ -26,7 +26,7 @@ use Rattle.theorems.proofs.Cuts.{Timed, timed-le, From, from-start, unt
 use Rattle.theorems.proofs.Holders.{clash, Named, absent-other}
 use Rattle.theorems.proofs.Seated.{arrives, arrives-le, room-turn, arrived-le, seated-run, first-allowed, step-of, seats-none}
 use Rattle.theorems.proofs.Seats.{Seats}
-use Rattle.theorems.proofs.Turns.{Like, Turn, idle, stepped, of-used, rate-like, formed-there, turn, on, on-run, no-one, begin}
+use Rattle.theorems.proofs.Turns.{Like, Turn, idle, stepped, of-used, rate-like, turn, on, on-run, no-one, begin}
 
 -- one message more at a run's end
 pub allowed-last : (matcher : Matcher) (m : MqttMonitor) (x : Id) (cs : List Call) (c : Call)
@@ -106,7 +106,7 @@ module _ (matcher : Matcher) (m₀ : MqttMonitor) (x : Id) (R : ℕ) where
         → length (arrives (rateOf matcher m₀ c) c l) ≤ 32 → Story done (after matcher m₀ done .«rate_buckets») s
         → Story (done ++ c ∷ []) (answer matcher (after matcher m₀ done) c .monitor .«rate_buckets») (time c)
     unfolding reaches
-    one-more h r f g v = turns done (k .named) (k .size) f g h (λ e. (e, r e)) adds-like v (turn matcher k c)
+    one-more h r f g v = turns done (k .named) (k .sound .buckets-sound .size) f g h (λ e. (e, r e)) adds-like v (turn matcher k c)
 
   wait-story : {done : List Call} {T : List RateBucket} {s t : ℕ} → s ≤ t → Story done T s → Story done T t
   wait-story h (unseen a) = unseen a
@@ -122,7 +122,7 @@ module _ (matcher : Matcher) (m₀ : MqttMonitor) (x : Id) (R : ℕ) where
       let w : after matcher m₀ (done ++ c ∷ []) ≡ answer matcher (after matcher m₀ done) c .monitor = after-two (answer matcher) m₀ done (c ∷ []) in
       let fits = le-trans (arrived-le matcher m₀ cs (arrives (rateOf matcher m₀ c) c l)) g in
       let k′ : Like m₀ (after matcher m₀ (done ++ c ∷ [])) = rw w (on matcher k c) in
-      let f′ : Seats (after matcher m₀ (done ++ c ∷ []) .«rate_buckets») (arrives (rateOf matcher m₀ c) c l) = rw w (room-turn (k .size) f fits (turn matcher k c) .seats) in
+      let f′ : Seats (after matcher m₀ (done ++ c ∷ []) .«rate_buckets») (arrives (rateOf matcher m₀ c) c l) = rw w (room-turn (k .sound .buckets-sound .size) f fits (turn matcher k c) .seats) in
       let v′ : Story (done ++ c ∷ []) (after matcher m₀ (done ++ c ∷ []) .«rate_buckets») (time c) = rw w (one-more done k c (h .0) q f fits v) in
       rw (append-assoc done (c ∷ []) cs) at (goes-on (done ++ c ∷ []) cs k′ (h .1) r f′ g v′)
 
@@ -149,7 +149,7 @@ pub lower-exact : LowerExact
 unfolding reaches arrived afterBy
 lower-exact matcher m p x R before z o h u rz d =
     let b = both (ltb 0 (rateOf matcher m z)) (isOf x (idOf (used z))) rz in
-    let k = begin p (formed-there matcher m x z rz) in
+    let k = begin p in
     let kz = on-run matcher k before in
     let f = from-start (before ++ z ∷ []) o in
     let l = arrived matcher m [] before in
@@ -158,5 +158,5 @@ lower-exact matcher m p x R before z o h u rz d =
     let s = seated-run matcher k before (seats-none p) c1 in
     let e : rateOf matcher m z ≡ R = rate-head (rate-rest before u) rz in
     let story = goes-on matcher m x R [] before k (until z 0 before [] f) (rate-first before (z ∷ []) u) (seats-none p) c1 (unseen (no-one p x)) in
-    ends matcher m x R (kz .named) (kz .size) s (rw (b .0) at c) (b .1) (omega (arith, ltb-true 0 (rateOf matcher m z) (b .0))) f story
+    ends matcher m x R (kz .named) (kz .sound .buckets-sound .size) s (rw (b .0) at c) (b .1) (omega (arith, ltb-true 0 (rateOf matcher m z) (b .0))) f story
     (rw e at (step-of (b .0) (turn matcher kz z))) d

@@ -23,7 +23,6 @@ use Rattle.monitor.specs.Runs.{Call, Reply, answer, shipped, afterBy, after, re
 use Rattle.monitor.specs.State.{matcherOf, numberOf}
 use Rattle.monitor.specs.declared.state.MqttMonitor.{MqttMonitor}
 use Rattle.monitor.proofs.Chosen.{one-matcher}
-use Rattle.monitor.proofs.Prepared.{prepared-sound}
 use Rattle.trace.specs.AsRun.{repliesOf}
 use Rattle.trace.specs.Trace.{loaded, messagesOf}
 use Rattle.trace.proofs.AsRun.{as-run}
@@ -89,7 +88,7 @@ module _ (matcher : Matcher) where
   taken-there : {m₀ m : MqttMonitor} → Like m₀ m → (c : Call)
       → inspectRefusal m (c .msg) (c .topic) (c .payload) ≡ inspectRefusal m₀ (c .msg) (c .topic) (c .payload)
   unfolding inspectRefusal
-  taken-there k c = rw (k .formed, k .formed₀)
+  taken-there k c = rw (k .sound .formed, k .sound₀ .formed)
 
   -- a Publish that is not refused has the rate of its topic
   same-rate : (m : MqttMonitor) (c : Call) → eqb (inspectRefusal m (c .msg) (c .topic) (c .payload)) 0 ≡ true → isPublish c ≡ true
@@ -166,7 +165,7 @@ module _ (matcher : Matcher) where
   -- the replies of a run from a fresh monitor, its messages in order, none refused
   module _ {m : MqttMonitor} (p : Prepared m) (cs : List Call) (o : InOrder cs) (i : every isInspected (replies matcher m cs) ≡ true) where
     start : Like m m
-    start = begin p (prepared-sound p .formed)
+    start = begin p
 
     -- the state after some of them
     there : (first : List Reply) → Like m (after matcher m (calls first))

@@ -55,7 +55,7 @@ pub seated-run : (matcher : Matcher) {m₀ m : MqttMonitor} → Like m₀ m → 
 unfolding arrived afterBy
 seated-run matcher k [] s h = s
 seated-run matcher {m₀} k (c ∷ cs) {l} s h =
-    let one = room-turn (k .size) s (le-trans (arrived-le matcher m₀ cs (arrives (rateOf matcher m₀ c) c l)) h) (turn matcher k c) in
+    let one = room-turn (k .sound .buckets-sound .size) s (le-trans (arrived-le matcher m₀ cs (arrives (rateOf matcher m₀ c) c l)) h) (turn matcher k c) in
     seated-run matcher (on matcher k c) cs (one .seats) h
 
 -- a run begins with no one seated

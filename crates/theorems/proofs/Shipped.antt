@@ -4,6 +4,7 @@ use mathlib.Core.List.{List, [], _∷_, _++_}
 use Rattle.topics.specs.Matching.{matchesBy}
 use Rattle.topics.specs.declared.matching.Matching.{Matching}
 use Rattle.tables.specs.declared.identity.Id.{Id}
+use Rattle.monitor.specs.Acts.{ours}
 use Rattle.monitor.specs.Chosen.{Keeps}
 use Rattle.monitor.specs.Runs.{Call, answer, shipped, afterBy, after}
 use Rattle.monitor.specs.State.{matcherOf}
@@ -13,8 +14,9 @@ use Rattle.monitor.proofs.Chosen.{one-matcher, inspect-keeps}
 use Rattle.theorems.specs.Run.{isAllowed, reaches, allowedOf}
 use Rattle.theorems.specs.Shipped.{passes, passedBy, ShippedLimits}
 use Rattle.theorems.proofs.Lower.{lower-first, lower-later}
-use Rattle.theorems.proofs.Turns.{Like, rate-like, formed-there, on, on-run, begin}
-use Rattle.theorems.proofs.Upper.{upper}
+use Rattle.theorems.proofs.Turns.{Like, rate-like, on}
+use Rattle.theorems.proofs.Removed.{shipped-calls}
+use Rattle.theorems.proofs.Upper.{gives-upper}
 
 -- the state after a run chose what the first did
 pub still : (p : MqttMonitor) (cs : List Call) → Keeps p (after (matcherOf p) p cs)
@@ -38,11 +40,7 @@ verdict p cs z =
 pub shipped-meets : ShippedLimits
 shipped-meets =
     record {
-      upper =
-          λ p q x R before between a z o r ra rz.
-          let k : Like p (after (matcherOf p) p before) = on-run (matcherOf p) (begin q (formed-there (matcherOf p) p x a ra)) before in
-          rw (one-matcher p before .left, passed-alike k (still p before) x (a ∷ between ++ z ∷ []))
-          (upper (matcherOf p) p q x R before between a z o r ra rz);
+      upper = gives-upper (ours shipped) shipped-calls;
       lower-first =
           λ p q x before z o h s rz. verdict p before z ∙ lower-first (matcherOf p) p q x before z o h s rz;
       lower-later =

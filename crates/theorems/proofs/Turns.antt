@@ -7,24 +7,24 @@ use Prim.Native.Nat.{ℕ, _<_}
 use native.Mathlib.Omega.{arith}
 use borrow.Author.Tests.{ltb-true, ltb-false}
 use lib.Dec.{eqb, ltb}
-use lib.ListN.{length, replicate, length-set, length-take, getD-replicate, List·getD-eq-default}
+use lib.ListN.{length, replicate, length-take, getD-replicate, List·getD-eq-default}
 use Rattle.laws.proofs.Cases.{by}
 use Rattle.tables.specs.Buckets.{noBucket, emptyBucket, holdsBucket}
 use Rattle.tables.specs.Identity.{idOf}
 use Rattle.tables.specs.declared.identity.Id.{Id}
 use Rattle.tables.specs.declared.buckets.RateBucket.{RateBucket}
 use Rattle.tables.proofs.identity.IdentityLaws.{OfTopic, of-topic}
-use Rattle.tables.proofs.buckets.StepLaws.{bucketAt, Absent, Step, hit, put, step}
+use Rattle.tables.proofs.buckets.StepLaws.{bucketAt, Absent, Step, step}
 use Rattle.monitor.specs.Inspect.{inspectRefusal}
 use Rattle.monitor.specs.Plan.{gateIn}
-use Rattle.monitor.specs.State.{wellFormed}
+use Rattle.monitor.specs.Sound.{Sound}
 use Rattle.monitor.specs.declared.state.MqttMonitor.{MqttMonitor}
 use Rattle.monitor.specs.Runs.{Call, answer, afterBy, after}
 use Rattle.monitor.specs.Prepared.{Prepared}
-use Rattle.monitor.proofs.state.KeptFormed.{kept-formed}
-use Rattle.monitor.proofs.Prepared.{all-free}
+use Rattle.monitor.proofs.Prepared.{all-free, prepared-sound}
 use Rattle.monitor.proofs.Link.{SameRules, refused, rules-stay, not-asked, asked, allowed}
-use Rattle.theorems.specs.Run.{Matcher, time, isAllowed, used, rateOf, reaches}
+use Rattle.monitor.proofs.SoundInspect.{sound-inspect}
+use Rattle.theorems.specs.Run.{Matcher, time, isAllowed, used, rateOf}
 use Rattle.theorems.proofs.Holders.{Named, names}
 use Rattle.theorems.proofs.Reach.{gate-rate, no-rate}
 
@@ -32,12 +32,11 @@ use Rattle.theorems.proofs.Reach.{gate-rate, no-rate}
 pub of-used : (c : Call) → OfTopic (idOf (used c))
 of-used c = of-topic (used c) (rw length-take (omega arith))
 
--- a state of a run beside the one at its start: the same rules, both well formed, 32 buckets whose identities are those of topics
+-- a state of a run beside the one at its start: the same rules, both sound, and the identities of its buckets are those of topics
 pub record Like (m₀ m : MqttMonitor) : Type 0 where
   pub same : SameRules m₀ m
-  pub formed₀ : wellFormed m₀ ≡ true
-  pub formed : wellFormed m ≡ true
-  pub size : length (m .«rate_buckets») ≡ 32
+  pub sound₀ : Sound m₀
+  pub sound : Sound m
   pub named : Named (m .«rate_buckets»)
 
 -- one call: it does not reach the limiter and the buckets stay, or it is a step
@@ -49,12 +48,7 @@ module _ (matcher : Matcher) where
   -- rates stay
   pub rate-like : {m₀ m : MqttMonitor} → Like m₀ m → (c : Call) → rateOf matcher m c ≡ rateOf matcher m₀ c
   unfolding rateOf inspectRefusal
-  rate-like k c = rw (k .formed, k .formed₀, k .same .rules-same, k .same .count-same)
-
-  -- who reaches the limiter does so in a well-formed state
-  pub formed-there : (m : MqttMonitor) (x : Id) (c : Call) → reaches matcher m x c ≡ true → wellFormed m ≡ true
-  unfolding reaches rateOf inspectRefusal
-  formed-there m x c h = by (wellFormed m) (λ e. e) (λ e. absurd (false≢true (rw e at h)))
+  rate-like k c = rw (k .sound .formed, k .sound₀ .formed, k .same .rules-same, k .same .count-same)
 
   turn-here : (m : MqttMonitor) (c : Call) → length (m .«rate_buckets») ≡ 32
       → Turn (m .«rate_buckets») (rateOf matcher m c) c (answer matcher m c .monitor .«rate_buckets») (isAllowed matcher m c)
@@ -70,34 +64,34 @@ module _ (matcher : Matcher) where
 
   pub turn : {m₀ m : MqttMonitor} → Like m₀ m → (c : Call)
       → Turn (m .«rate_buckets») (rateOf matcher m₀ c) c (answer matcher m c .monitor .«rate_buckets») (isAllowed matcher m c)
-  turn {m₀} {m} k c = rw (rate-like k c) at (turn-here m c (k .size))
+  turn {m₀} {m} k c = rw (rate-like k c) at (turn-here m c (k .sound .buckets-sound .size))
 
--- a call keeps the table's size and names
-turn-size : {T T′ : List RateBucket} {rate : ℕ} {c : Call} {ok : Bool} → Turn T rate c T′ ok → length T′ ≡ length T
-turn-size (idle e) = refl
-turn-size (stepped p (hit i l h)) = rw length-set
-turn-size (stepped p (put i ok l a s)) = rw length-set
-
+-- an inspection keeps the table's names
 turn-named : {T T′ : List RateBucket} {rate : ℕ} {c : Call} {ok : Bool} → Named T → Turn T rate c T′ ok → Named T′
 turn-named n (idle e) = n
 turn-named {c = c} n (stepped p s) = names n (of-used c) s
 
--- the run goes on
-pub on : (matcher : Matcher) {m₀ m : MqttMonitor} → Like m₀ m → (c : Call) → Like m₀ (answer matcher m c .monitor)
-on matcher {m₀} {m} k c =
-    let r = rules-stay matcher m (c .msg) (c .topic) (c .payload) in
+-- the run goes on, to any sound state of the same rules whose buckets are named
+pub goes-on : {m₀ m n : MqttMonitor} → Like m₀ m → SameRules m n → Sound n → Named (n .«rate_buckets») → Like m₀ n
+goes-on k r s n =
     record {
       same =
           record {
             rules-same = r .rules-same ∙ k .same .rules-same;
             count-same = r .count-same ∙ k .same .count-same;
             default-same = r .default-same ∙ k .same .default-same;
+            choice-same = r .choice-same ∙ k .same .choice-same;
           };
-      formed₀ = k .formed₀;
-      formed = kept-formed matcher m (c .msg) (c .topic) (c .payload) (k .formed);
-      size = turn-size (turn matcher k c) ∙ k .size;
-      named = turn-named (k .named) (turn matcher k c);
+      sound₀ = k .sound₀;
+      sound = s;
+      named = n;
     }
+
+-- by an inspection
+pub on : (matcher : Matcher) {m₀ m : MqttMonitor} → Like m₀ m → (c : Call) → Like m₀ (answer matcher m c .monitor)
+on matcher {m₀} {m} k c =
+    goes-on k (rules-stay matcher m (c .msg) (c .topic) (c .payload)) (sound-inspect matcher (k .sound) (c .msg) (c .topic) (c .payload))
+    (turn-named (k .named) (turn matcher k c))
 
 pub on-run : (matcher : Matcher) {m₀ m : MqttMonitor} → Like m₀ m → (cs : List Call) → Like m₀ (after matcher m cs)
 unfolding afterBy
@@ -116,12 +110,11 @@ unfolding holdsBucket
 no-one p x = rw (all-free p) (record { none = λ j. rw (free-place j) })
 
 -- and a run begins
-pub begin : {m : MqttMonitor} → Prepared m → wellFormed m ≡ true → Like m m
-begin p f =
+pub begin : {m : MqttMonitor} → Prepared m → Like m m
+begin p =
     record {
-      same = record { rules-same = refl; count-same = refl; default-same = refl };
-      formed₀ = f;
-      formed = f;
-      size = rw (all-free p);
+      same = record { rules-same = refl; count-same = refl; default-same = refl; choice-same = refl };
+      sound₀ = prepared-sound p;
+      sound = prepared-sound p;
       named = rw (all-free p) (record { name = λ j h. absurd (false≢true (sym (free-place j) ∙ h)) });
     }
