@@ -17,6 +17,8 @@ use Rattle.theorems.proofs.Guider.{guider-runs}
 use Rattle.theorems.proofs.Loop.{loop-limits}
 use Rattle.theorems.proofs.Lower.{lower-first, lower-later}
 use Rattle.theorems.proofs.Printed.{printed-limits}
+use Rattle.theorems.proofs.RemovalRuns.{removal-runs}
+use Rattle.theorems.proofs.Removed.{removal-costs}
 use Rattle.theorems.proofs.Shipped.{shipped-meets}
 use Rattle.theorems.proofs.ShutOut.{shut-out}
 use Rattle.theorems.proofs.Slips.{slips}
@@ -33,6 +35,8 @@ claims =
       shipped = shipped-meets;
       exact = exactness;
       guider = guider-runs;
+      removals = removal-costs;
+      removal-runs = removal-runs;
       met = tight;
       slips = slips;
       printed = printed-limits;

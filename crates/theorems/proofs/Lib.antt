@@ -4,6 +4,7 @@ mod AnswersHub
 mod AnswersLines
 mod AnswersLoops
 mod AnswersMonitor
+mod AnswersRuns
 mod AnswersSlices
 mod AnswersTables
 mod AnswersTopics
@@ -21,6 +22,7 @@ mod Lower
 mod LowerExact
 mod Printed
 mod Reach
+mod RemovalRuns
 mod Removals
 mod Removed
 mod Seated

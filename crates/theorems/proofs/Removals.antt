@@ -102,10 +102,6 @@ module _ (matcher : Matcher) (f : Monitor) {m₀ : MqttMonitor} (agrees : (m : M
       same-account (u + 1000000 * n) (u + 1000000 * n) (B + 1000000 * R * i + 1000000 * R * d) (B + 1000000 * R * (i + d)) refl (omega arith)
       (run (go-on k (asks o)) acts h r (frees-paid (k .sound .buckets-sound .size) (beside f (k .sound) o .frees) v))
 
--- from millionths to messages, rounded down
-rounded : (R K s e n : ℕ) → s ≤ e → R * s + 1000000 * n ≤ 1000000 * R + 1000000 * R * K + R * e → n ≤ (K + 1) * R + R * (e - s) / 1000000
-rounded R K s e n h v = omega (arith, ap (λ (k : ℕ). R * k) (sub-add-cancel h))
-
 -- runs cut in two
 pub messages-two : (pre post : List Act) → messages (pre ++ post) ≡ messages pre ++ messages post
 unfolding messages
@@ -152,8 +148,7 @@ bound matcher f m p agrees x R before between a z o r ra rz =
     let t : Timed (time a) (messages rest) (time z) = rw (messages-to between z) (to-last z (time a) (messages between) g) in
     let start : Inv x R (m .«rate_buckets») 0 0 (1000000 * R) = spare (no-one p x) (omega arith) in
     let there = reopen (run matcher f agrees k before (until a 0 (messages before) (messages rest) w) (rate-first (messages before) (a ∷ messages rest) q) start) in
-    rw (← removals-between (ours f) m before between a z)
-    (rounded R (removals (ours f) (afterActs (ours f) m before) (inspects a ∷ rest)) (time a) (time z)
-    (passedIn (ours f) (reaches matcher m x) (afterActs (ours f) m before) (inspects a ∷ rest))
-    (timed-le (messages between) (until z (time a) (messages between) [] g))
-    (bounded (run matcher f agrees (on-all matcher f agrees k before) (inspects a ∷ rest) (omega arith, t) (rate-rest (messages before) q) there)))
+    let le : time a ≤ time z = timed-le (messages between) (until z (time a) (messages between) [] g) in
+    -- in millionths; rounded down these are messages
+    let paid = bounded (run matcher f agrees (on-all matcher f agrees k before) (inspects a ∷ rest) (omega arith, t) (rate-rest (messages before) q) there) in
+    rw (← removals-between (ours f) m before between a z) (omega (arith, paid, ap (λ (d : ℕ). R * d) (sub-add-cancel le)))

@@ -14,6 +14,8 @@ use Rattle.theorems.specs.Guider.{Guider}
 use Rattle.theorems.specs.Limits.{Upper, LowerFirst, LowerLater}
 use Rattle.theorems.specs.LowerExact.{Exactness}
 use Rattle.theorems.specs.Printed.{PrintedLimits, LoopLimits}
+use Rattle.theorems.specs.RemovalRuns.{RemovalRuns}
+use Rattle.theorems.specs.Removals.{Removals}
 use Rattle.theorems.specs.Shipped.{ShippedLimits}
 use Rattle.theorems.specs.ShutOut.{ShutOut}
 use Rattle.theorems.specs.Slips.{Slips}
@@ -35,7 +37,12 @@ pub record Claims : Type 0 where
   pub exact : Exactness
   -- the request's guider, every 0.4 s at a rate of 2: four of five pass, every second one before; so the step before does not meet it
   pub guider : Guider
-  -- these bounds are met: four messages where the bound is four; a later message at the very microsecond; the night that started this
+  -- REMOVALS (request C-24): with K successful `remove_rate_bucket` between the two messages, of any topics, at most (K + 1) x R + R x D / 1,000,000 are allowed, of the shipped calls too; the upper
+  -- half above is the case of no removal; removals that fail cost nothing. That these calls are what the public functions promise is in proofs/AnswersRuns.antt
+  pub removals : Removals
+  -- that bound is met, for one removal and for two, by the topic's own and by another's; and what a removal with a slip would let pass
+  pub removal-runs : RemovalRuns
+  -- demand 3's bounds are met: four messages where the bound is four; a later message at the very microsecond; the night that started this
   pub met : Met × MetLater × Night
   -- six slips of a limiter break the upper half
   pub slips : Slips

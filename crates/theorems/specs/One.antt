@@ -49,6 +49,10 @@ module _ (T : Ended) where
       (κs : Lives) (a : Args (T .signature) κs) (x y : Res (T .signature) κs) (e f : AtExit T κs)
       → promise κs a x e → promise κs a y f → seen κs x ≡ seen κs y
 
+  -- every result that a promise allows is what a definition hands back for the arguments
+  abbrev pub Is : Out → ((κs : Lives) → Args (T .signature) κs → Res (T .signature) κs) → Type 0
+  Is promise given = (κs : Lives) (a : Args (T .signature) κs) (x : Res (T .signature) κs) (e : AtExit T κs) → promise κs a x e → x ≡ given κs a
+
   -- A call that the checker has no reading of, because it is proved by a walk, has its clauses alone, in any model of the program logic
   abbrev pub Written : Type 2
   Written = (M : Type 1) (𝓤 : URA M) (H : Heap 𝓤) → Atoms 𝓤 → (Memory → SProp 𝓤) → (Routine → Fun 𝓤) → Clauses 𝓤 T
