@@ -18,10 +18,12 @@ use Rattle.laws.proofs.Cases.{by}
 use Rattle.laws.proofs.Lists.{each}
 use Rattle.tables.specs.Buckets.{noBucket, emptyBucket, holdsBucket, spend, made, isExpired}
 use Rattle.tables.specs.Identity.{isOf}
+use Rattle.tables.specs.Scan.{find}
 use Rattle.tables.specs.declared.identity.Id.{Id}
 use Rattle.tables.specs.declared.buckets.RateBucket.{RateBucket}
 use Rattle.tables.proofs.buckets.BucketLaws.{level, one, Good, spends, makes, keeps, wait}
 use Rattle.tables.proofs.identity.IdentityLaws.{OfTopic}
+use Rattle.tables.proofs.ScanLaws.{find-lt}
 use Rattle.tables.proofs.buckets.StepLaws.{bucketAt, timeAt, Absent, free, worn, first, Step, hit, put, expired}
 use Rattle.theorems.proofs.Holders.{clash, Named, same-holder, held-live, no-holder, made-holder, not-mine, mine, absent-mine, absent-other}
 
@@ -83,10 +85,25 @@ module _ (x : Id) (T : List RateBucket) (k : ℕ) (c : RateBucket) (q : k < leng
       gone F a f (rw length-set (each noBucket T k c q (λ j d. j < length T → d .active ≡ true) (λ _. on) (λ j _. live j)))
       (rw length-set (each noBucket T k c q (λ j d. j < length T → F ≤ d .«last_refill_us») (λ _. late) (λ j _. low j))) p
 
--- a place made free, at the price of one whole bucket: it may have been the identity's own, or any other that was in its way
+-- a place made free
 module _ (x : Id) (T : List RateBucket) (k : ℕ) (q : k < length T) where
   none-there : ((j : ℕ) → (j ≡ k → ⊥) → holdsBucket x (bucketAt T j) ≡ false) → Absent x (set T k emptyBucket)
   none-there = still-absent x T k emptyBucket q (no-holder x emptyBucket refl)
+
+  -- for nothing, where the identity still has its bucket
+  pub spared : {R now u B : ℕ} → find (holdsBucket x) (set T k emptyBucket) < length (set T k emptyBucket) → Inv x R T now u B → Inv x R (set T k emptyBucket) now u B
+  spared l v = keeps-it v
+    where
+      there : holdsBucket x (bucketAt (set T k emptyBucket) (find (holdsBucket x) (set T k emptyBucket))) ≡ true
+      there = find-lt (holdsBucket x) (set T k emptyBucket) noBucket l
+
+      keeps-it : {R now u B : ℕ} → Inv x R T now u B → Inv x R (set T k emptyBucket) now u B
+      keeps-it (held i b l e m only g p) =
+          by (eqb k i)
+          (λ z. let r : k ≡ i = eqb-true k i z in clash there (none-there (λ j ne. fails _ (λ c. ne (only j c ∙ sym r))) .none (find (holdsBucket x) (set T k emptyBucket))))
+          (λ z. beside x T k emptyBucket q i b l e m only g (omega arith) (no-holder x emptyBucket refl) (eqb-false k i z) p)
+      keeps-it (gone F a f live low p) = clash there (none-there (λ j _. a .none j) .none (find (holdsBucket x) (set T k emptyBucket)))
+      keeps-it (spare a p) = spare (none-there (λ j _. a .none j)) p
 
   paid : {R now u B : ℕ} → u ≤ B + R * now → Inv x R T now u B → Inv x R (set T k emptyBucket) now u (B + 1000000 * R)
   paid w (held i b l e m only g p) =
@@ -96,6 +113,7 @@ module _ (x : Id) (T : List RateBucket) (k : ℕ) (q : k < length T) where
   paid w (gone F a f live low p) = spare (none-there (λ j _. a .none j)) (omega arith)
   paid w (spare a p) = spare (none-there (λ j _. a .none j)) (omega arith)
 
+  -- at the price of one whole bucket: it may have been the identity's own, or any other that was in its way
   pub cleared : {R now u B : ℕ} → Inv x R T now u B → Inv x R (set T k emptyBucket) now u (B + 1000000 * R)
   cleared v = paid (bounded v) v
 

@@ -18,12 +18,12 @@ use Rattle.theorems.proofs.Loop.{loop-limits}
 use Rattle.theorems.proofs.Lower.{lower-first, lower-later}
 use Rattle.theorems.proofs.Printed.{printed-limits}
 use Rattle.theorems.proofs.RemovalRuns.{removal-runs}
-use Rattle.theorems.proofs.Removed.{removal-costs}
+use Rattle.theorems.proofs.Removals.{gives-removed, felt-under, removed-under, felt-shipped, removed-shipped, failed-free}
 use Rattle.theorems.proofs.Shipped.{shipped-meets}
 use Rattle.theorems.proofs.ShutOut.{shut-out}
 use Rattle.theorems.proofs.Slips.{slips}
 use Rattle.theorems.proofs.Tight.{tight}
-use Rattle.theorems.proofs.Upper.{upper}
+use Rattle.theorems.proofs.Upper.{gives-upper, upper}
 use Rattle.theorems.proofs.Witness.{witness}
 
 pub claims : Claims
@@ -35,7 +35,8 @@ claims =
       shipped = shipped-meets;
       exact = exactness;
       guider = guider-runs;
-      removals = removal-costs;
+      removals = record { any-matcher = removed-under; shipped-calls = removed-shipped; gives-upper = gives-upper; failed-free = failed-free };
+      spared = record { any-matcher = felt-under; shipped-calls = felt-shipped; gives-removed = gives-removed };
       removal-runs = removal-runs;
       met = tight;
       slips = slips;

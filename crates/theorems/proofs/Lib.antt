@@ -14,6 +14,7 @@ mod Claims
 mod Corners
 mod Cuts
 mod Exactness
+mod Felt
 mod Follows
 mod Guider
 mod Holders
@@ -24,7 +25,6 @@ mod Printed
 mod Reach
 mod RemovalRuns
 mod Removals
-mod Removed
 mod Seated
 mod Seats
 mod Shipped

@@ -24,6 +24,7 @@ use Rattle.theorems.specs.RemovalRuns.{once, twice, RemovalRuns}
 use Rattle.theorems.specs.Removals.{passedIn}
 use Rattle.theorems.specs.Run.{InOrder, single, later, done, next, firstRate, rateOf, reaches}
 use Rattle.theorems.specs.Slips.{own}
+use Rattle.theorems.specs.Spared.{felt}
 use Rattle.theorems.specs.Tight.{hub, publish, crowd}
 use Rattle.theorems.proofs.Tight.{hub-prepared}
 
@@ -31,7 +32,7 @@ pub removal-runs : RemovalRuns
 unfolding matchBytes fromSlash takesNone takesEnd firstLevel restLevels same has wellPlaced countOf patternRefusal isUtf8 taken begun fnv1a djb2 suffixHash prefixOf idOf
     isOf isRemoved find leastOf refilled spend isExpired holdsBucket newcomer decide removedBucket qosOk ruleFine equalRule firstRule covered shadowedAfter severityOf hashOf
     kindsOf raise raiseAll fresh rulePlan addRule removeBucket rulingOf gateAfter gateOf applied inspectRefusal inspectWith seenOf spentOf fedOf denialOf planFrom
-    planOf every wellFormed afterActs messages removals passedIn firstRate rateOf reaches hub publish crowd once twice
+    planOf every wellFormed afterActs messages removals felt passedIn firstRate rateOf reaches hub publish crowd once twice
 removal-runs =
     let at : 0 ≤ 0 = omega arith in
     let half : 0 ≤ 500000 = omega arith in
@@ -55,9 +56,9 @@ removal-runs =
             count = refl;
             exactly = refl;
           };
-      by-another = (refl, refl);
+      by-another = (refl, refl, refl);
       freed = refl;
-      spared = refl;
+      spared = (refl, refl, refl);
       no-more = refl;
       unheld = (refl, refl);
       gone-already = (refl, refl);

@@ -15,7 +15,7 @@ use Rattle.theorems.specs.Run.{isAllowed, reaches, allowedOf}
 use Rattle.theorems.specs.Shipped.{passes, passedBy, ShippedLimits}
 use Rattle.theorems.proofs.Lower.{lower-first, lower-later}
 use Rattle.theorems.proofs.Turns.{Like, rate-like, on}
-use Rattle.theorems.proofs.Removed.{shipped-calls}
+use Rattle.theorems.proofs.Removals.{removed-shipped}
 use Rattle.theorems.proofs.Upper.{gives-upper}
 
 -- the state after a run chose what the first did
@@ -40,7 +40,7 @@ verdict p cs z =
 pub shipped-meets : ShippedLimits
 shipped-meets =
     record {
-      upper = gives-upper (ours shipped) shipped-calls;
+      upper = gives-upper (ours shipped) removed-shipped;
       lower-first =
           λ p q x before z o h s rz. verdict p before z ∙ lower-first (matcherOf p) p q x before z o h s rz;
       lower-later =

@@ -15,7 +15,7 @@ use Rattle.theorems.specs.Limits.{Upper}
 use Rattle.theorems.specs.Removals.{passedIn, UpperRemoved, UpperRemovedBy}
 use Rattle.theorems.specs.Run.{Matcher, time, isAllowed, rateOf, reaches, InOrder, OneRate, allowedOf}
 use Rattle.theorems.specs.Shipped.{passes, passedBy, UpperBy}
-use Rattle.theorems.proofs.Removals.{bound}
+use Rattle.theorems.proofs.Removals.{removed-under}
 use Rattle.theorems.proofs.Turns.{Like, rate-like, on, on-run, begin}
 
 -- a run of inspections alone: its messages, the state after it, no removal
@@ -72,4 +72,4 @@ passed-under matcher k x (c ∷ cs) = rw (rate-like matcher k c, passed-under ma
 pub upper : Upper
 upper matcher m p x R before between a z o r ra rz =
     rw (← passed-under matcher (on-run matcher (begin p) before) x (a ∷ between ++ z ∷ []))
-    (without (ours (answer matcher)) matcher m (bound matcher (answer matcher) m p (λ n e c. refl)) x R before between a z o r ra rz)
+    (without (ours (answer matcher)) matcher m (removed-under matcher m p) x R before between a z o r ra rz)

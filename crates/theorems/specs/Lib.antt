@@ -11,5 +11,6 @@ pub mod Run
 pub mod Shipped
 pub mod ShutOut
 pub mod Slips
+pub mod Spared
 pub mod Tight
 pub mod Witness

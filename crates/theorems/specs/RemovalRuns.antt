@@ -13,15 +13,19 @@ use Rattle.monitor.specs.State.{matcherOf}
 use Rattle.theorems.specs.Removals.{passedIn}
 use Rattle.theorems.specs.Run.{reaches, InOrder, OneRate}
 use Rattle.theorems.specs.Slips.{own}
+use Rattle.theorems.specs.Spared.{felt}
 use Rattle.theorems.specs.Tight.{hub, publish, device, crowd}
 
 -- how many messages of the topic `m/x` pass in a run from a fresh monitor with a rate
 abbrev pub passing : ℕ → List Act → ℕ
 passing rate run = passedIn (ours shipped) (reaches (matcherOf (hub rate)) (hub rate) (idOf (bytes "m/x"))) (hub rate) run
 
--- how many buckets are removed in it
+-- how many buckets are removed in it, and how many of these removals the topic felt
 abbrev pub removed : ℕ → List Act → ℕ
 removed rate run = removals (ours shipped) (hub rate) run
+
+abbrev pub feltIn : ℕ → List Act → ℕ
+feltIn rate run = felt (ours shipped) (idOf (bytes "m/x")) (hub rate) run
 
 -- a message of the topic at a time, and the removal of its bucket
 abbrev pub sends : ℕ → Act
@@ -55,16 +59,20 @@ pub record MetWith (K : ℕ) (run : List Act) : Type 0 where
 abbrev pub crowded : List Act
 crowded = sends 0 ∷ inspections (crowd 32 0) ++ asks (removes (device 31)) ∷ sends 0 ∷ sends 0 ∷ []
 
+-- rate 1: another comes, and its bucket is removed
+abbrev pub beside : List Act
+beside = sends 0 ∷ inspects (publish (device 0) 0) ∷ asks (removes (device 0)) ∷ sends 0 ∷ []
+
 -- the runs
 pub record RemovalRuns : Type 0 where
   pub met-once : MetWith 1 once
   pub met-twice : MetWith 2 twice
-  -- another topic's removal costs a bucket too: 1 + 1, where without it the bound is 1
-  pub by-another : (removed 1 crowded ≡ 1) × (passing 1 crowded ≡ 2)
+  -- another topic's removal costs a bucket too, where the topic had lost its own: 1 + 1, and without it the bound is 1
+  pub by-another : (removed 1 crowded ≡ 1) × (feltIn 1 crowded ≡ 1) × (passing 1 crowded ≡ 2)
   -- a removal frees the bucket that it names: the next message passes
   pub freed : passing 1 (sends 0 ∷ frees ∷ sends 0 ∷ []) ≡ 2
-  -- and no other: beside a bucket that is removed, this one stays spent
-  pub spared : passing 1 (sends 0 ∷ inspects (publish (device 0) 0) ∷ asks (removes (device 0)) ∷ sends 0 ∷ []) ≡ 1
+  -- and no other: beside a bucket that is removed this one stays spent, and its topic feels nothing
+  pub spared : (removed 1 beside ≡ 1) × (feltIn 1 beside ≡ 0) × (passing 1 beside ≡ 1)
   -- an identity that was removed gets its rate, and not more
   pub no-more : passing 1 (sends 0 ∷ frees ∷ sends 0 ∷ sends 0 ∷ []) ≡ 2
   -- a removal that fails gives nothing: of a topic that holds no bucket
