@@ -60,7 +60,7 @@ module _ (h : Candidate) where
 
   pub gives-upper : UpperRemovedBy h → UpperBy (h .inspect)
   gives-upper b p q x R before between a z o r ra rz =
-      rw (← passed-by p (afterBy (h .inspect) p before) x (a ∷ between ++ z ∷ [])) (without (matcherOf p) p (b p q) x R before between a z o r ra rz)
+      rw (← passed-by p (afterBy (h .inspect) p before) x (a ∷ between ++ z ∷ [])) (omega (arith, without (matcherOf p) p (b p q) x R before between a z o r ra rz))
 
 -- under a matcher likewise, where reach is asked of the state at hand
 passed-under : (matcher : Matcher) {m₀ m : MqttMonitor} → Like m₀ m → (x : Id) (cs : List Call)
@@ -72,4 +72,4 @@ passed-under matcher k x (c ∷ cs) = rw (rate-like matcher k c, passed-under ma
 pub upper : Upper
 upper matcher m p x R before between a z o r ra rz =
     rw (← passed-under matcher (on-run matcher (begin p) before) x (a ∷ between ++ z ∷ []))
-    (without (ours (answer matcher)) matcher m (removed-under matcher m p) x R before between a z o r ra rz)
+    (omega (arith, without (ours (answer matcher)) matcher m (removed-under matcher m p) x R before between a z o r ra rz))

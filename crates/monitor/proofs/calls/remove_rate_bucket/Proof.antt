@@ -54,8 +54,8 @@ returns-3 c =
     let formed = at-id .before in
     let e = rw (at-id .id-of .ensures) at (c .before .before .before .removed-bucket .ensures) in
     c .done .ensures
-    ∙ (rw (c .before .empty-bucket .ensures, e)
-    (ended-done _ (formed .before .well-formed .ensures) _ _ _ (formed .if1 .left) (rw (← e, lt-ltb _ _ (c .before .before .if2 .left)))))
+    ∙ (rw (← e, ← c .before .empty-bucket .ensures)
+    (ended-done _ (formed .before .well-formed .ensures) _ _ _ (formed .if1 .left) (rw (lt-ltb _ _ (c .before .before .if2 .left)))))
 
 pub remove-rate-bucket-spec : {M : Type 1} → statement M
 remove-rate-bucket-spec =
