@@ -1,5 +1,5 @@
 -- Runs of a monitor: inspections one after the other, each on the state that the one before it left. What is claimed of many messages is said of them; a trace, a loop
--- and later a queue are such runs.
+-- and later a queue are such runs. Runs in which other calls stand too are in Acts.antt.
 -- Assumes nothing.
 use mathlib.Core.Path.{_≡_}
 use mathlib.Core.Bool.{Bool}

@@ -1,6 +1,7 @@
--- The upper half of demand 3 over runs in which buckets are removed. Each inspection keeps the budget's invariant, and so does a removal that leaves the identity its bucket; one that leaves it without
--- raises the budget by one whole bucket (proofs/Budget.antt). Every other call leaves the buckets as they are. The run before the window brings the invariant to the window's first message, where counting begins anew with one whole bucket, and at its last
--- message what was used is at most that bucket, one for each removal that was felt, and rate x D. Assumes nothing.
+-- The upper half of demand 3 over runs in which buckets are removed. Each inspection keeps the budget's invariant, and so does a removal that leaves the identity its bucket; one that
+-- leaves it without raises the budget by one whole bucket (proofs/Budget.antt). Every other call leaves the buckets as they are. The run before the window brings the invariant to the
+-- window's first message, where counting begins anew with one whole bucket, and at its last message what was used is at most that bucket, one for each removal that was felt, and
+-- rate x D. Assumes nothing.
 use mathlib.Core.Bool.{Bool, true, false, cond, not, _&&_, false≢true}
 use mathlib.Core.List.{List, [], _∷_, _++_, append-assoc}
 use mathlib.Core.Path.{_≡_, refl, sym, ap, _∙_}

@@ -1,5 +1,5 @@
--- The bound of request C-24: all removals are counted, and so it follows from the one that counts those that were felt (proofs/Felt.antt), of any candidate. It holds under any matcher and of the shipped
--- calls, whose runs are those under the matcher that their first state chose. Calls that fail change nothing. Assumes nothing.
+-- The bound of request C-24: all removals are counted, and so it follows from the one that counts those that were felt (proofs/Felt.antt), of any candidate. It holds under any matcher
+-- and of the shipped calls, whose runs are those under the matcher that their first state chose. Calls that fail change nothing. Assumes nothing.
 use mathlib.Core.Bool.{Bool, true, false, not, _&&_, and-false}
 use mathlib.Core.List.{List, [], _∷_, _++_}
 use mathlib.Core.Path.{_≡_, refl, sym, ap, _∙_}

@@ -41,7 +41,7 @@ pub record Claims : Type 0 where
   -- REMOVALS (request C-24): with K successful `remove_rate_bucket` between the two messages, of any topics, at most (K + 1) x R + R x D / 1,000,000 are allowed, of the shipped calls too; the upper
   -- half above is the case of no removal; removals that fail cost nothing. That these calls are what the public functions promise is in proofs/AnswersRuns.antt
   pub removals : Removals
-  -- and fewer count: a removal after which the identity still has its bucket lets nothing more of it pass
+  -- and fewer count: a removal after which the identity still has its bucket does not raise the bound
   pub spared : Spared
   -- that bound is met, for one removal and for two, by the topic's own and by another's; and what a removal with a slip would let pass
   pub removal-runs : RemovalRuns

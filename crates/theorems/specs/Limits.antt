@@ -1,5 +1,5 @@
 -- Demand 3, for any matcher of the rules: what a rate lets pass. `m` is a fresh monitor with its rules, and after it come only inspections whose timestamps never go back.
--- docs/LIMITS.md says the same for the support desk, with worked numbers. The proofs are in proofs/Upper.antt and proofs/Lower.antt.
+-- docs/LIMITS.md says the same for the support desk, with worked numbers. The proofs are in proofs/Upper.antt and proofs/Lower.antt. The upper half is the case without a removal of Removals.antt.
 -- Assumes nothing.
 use mathlib.Core.Path.{_≡_}
 use mathlib.Core.Bool.{true}

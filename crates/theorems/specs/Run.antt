@@ -1,5 +1,6 @@
 -- Runs of a monitor (`monitor`'s specs/Runs.antt), and what demand 3 says of their messages: which of them reach the limiter, in document 01's own words and apart from what
--- `inspect` does, so that an `inspect` which asked the limiter of other messages would break the theorems. Today a call is an inspection; the change requests add others.
+-- `inspect` does, so that an `inspect` which asked the limiter of other messages would break the theorems. A call here is an inspection: of runs in which other calls stand too
+-- (`monitor`'s specs/Acts.antt) all this is asked of their inspections.
 -- Assumes nothing.
 use mathlib.Core.Path.{_≡_}
 use mathlib.Core.Bool.{Bool, true, false, cond, not, _&&_}

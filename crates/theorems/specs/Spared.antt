@@ -1,5 +1,5 @@
 -- Whom a removal costs something (beside request C-24, which counts every removal): an identity that is left without a bucket, since the one removed was its own, or since it had lost its bucket to
--- another before. A removal after which the identity still has its bucket lets nothing more of it pass. So the bound of Removals.antt holds with fewer removals counted, and follows from this one.
+-- another before. A removal after which the identity still has its bucket does not raise its bound. So the bound of Removals.antt holds with fewer removals counted, and follows from this one.
 -- The proofs are in proofs/Felt.antt and proofs/Removals.antt.
 -- Assumes nothing.
 use mathlib.Core.Path.{_≡_}
