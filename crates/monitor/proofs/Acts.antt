@@ -12,9 +12,8 @@ use Rattle.tables.specs.Buckets.{emptyBucket, removedBucket}
 use Rattle.tables.specs.Identity.{idOf}
 use Rattle.tables.specs.Trackers.{removedTracker}
 use Rattle.tables.specs.declared.buckets.RateBucket.{RateBucket}
-use Rattle.monitor.specs.Acts.{Other, removes, forgets, storms, called, ours, hasRemoved}
+use Rattle.monitor.specs.Acts.{Other, removes, forgets, storms, called, isRemoval}
 use Rattle.monitor.specs.Calls.{tested, setStorm, removeBucket, removeTracker}
-use Rattle.monitor.specs.Runs.{Monitor}
 use Rattle.monitor.specs.Sound.{Sound}
 use Rattle.monitor.specs.State.{numberOf}
 use Rattle.monitor.specs.declared.state.MqttMonitor.{MqttMonitor}
@@ -36,13 +35,13 @@ pub data Freed (T : List RateBucket) : Bool → List RateBucket → Type 0 where
   freed : (k : ℕ) → k < 32 → Freed T true (set T k emptyBucket)
 
 -- a call beside the inspections of a run
-pub record Beside (f : Monitor) (m : MqttMonitor) (o : Other) : Type 0 where
+pub record Beside (m : MqttMonitor) (o : Other) : Type 0 where
   pub sound : Sound (called m o .monitor)
   pub same : SameRules m (called m o .monitor)
-  pub frees : Freed (m .«rate_buckets») (hasRemoved (ours f) m o) (called m o .monitor .«rate_buckets»)
+  pub frees : Freed (m .«rate_buckets») (isRemoval o && eqb (numberOf (called m o .outcome)) 0) (called m o .monitor .«rate_buckets»)
 
-module _ (f : Monitor) {m : MqttMonitor} (s : Sound m) where
-  pub beside : (o : Other) → Beside f m o
+module _ {m : MqttMonitor} (s : Sound m) where
+  pub beside : (o : Other) → Beside m o
   unfolding removeBucket removeTracker setStorm
   beside (removes topic) =
       let at = removedBucket (idOf topic) (m .«rate_buckets») in

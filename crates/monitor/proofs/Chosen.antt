@@ -8,6 +8,7 @@ use lib.Dec.{eqb, ltb}
 use lib.ListN.{take}
 use Rattle.laws.proofs.Cases.{by}
 use Rattle.topics.specs.Matching.{isStandard, matchesBy, matchesWith, ruleWith}
+use Rattle.topics.specs.declared.matching.Matching.{Matching}
 use Rattle.tables.specs.Buckets.{removedBucket}
 use Rattle.tables.specs.Identity.{idOf}
 use Rattle.tables.specs.Trackers.{removedTracker}
@@ -43,6 +44,10 @@ choice-kept =
       tracker-removed = λ m topic. by (eqb (tested m (cond (ltb (removedTracker (idOf topic) (m .«ewma_trackers»)) 16) 0 7)) 0) (λ e. rw e) (λ e. rw e);
       reset = λ m. by (eqb (tested m 0) 0) (λ e. rw e) (λ e. rw e);
     }
+
+-- in a state of the same choice the shipped `inspect` takes the same matcher
+pub as-chosen : (m n : MqttMonitor) → Keeps m n → (c : Call) → shipped n c ≡ answer (matcherOf m) n c
+as-chosen m n e c = ap (λ (matching : Matching). answer (matchesBy matching) n c) e
 
 -- the next call of a run takes the matcher that this one took
 same-matcher : (m : MqttMonitor) (c : Call) → matcherOf (shipped m c .monitor) ≡ matcherOf m

@@ -1,7 +1,8 @@
--- The upper half's invariant, and that every message keeps it; a place made free costs a whole bucket more (request C-24). Accounts are in millionths of a token: `u` is what was used (1,000,000 for each allowed message of the
--- identity and rate x the time at which counting began), `B` the budget (one whole bucket). Either the identity's one bucket is in the table, and what it holds is paid for
--- or a whole bucket is to spare; or it was replaced when its time F was the least of all, and no live bucket is older than F, so that a full grant has to wait for
--- 300 seconds after F; or it is not there and a whole bucket is to spare. In each case `u` is at most B + rate x now. Assumes nothing.
+-- The upper half's invariant, and that every message keeps it; a place made free costs a whole bucket more, or nothing where the identity still has its bucket (request C-24). Accounts
+-- are in millionths of a token: `u` is what was used (1,000,000 for each allowed message of the identity and rate x the time at which counting began), `B` the budget (one whole
+-- bucket). Either the identity's one bucket is in the table, and what it holds is paid for or a whole bucket is to spare; or it was replaced when its time F was the least of all, and
+-- no live bucket is older than F, so that a full grant has to wait for 300 seconds after F; or it is not there and a whole bucket is to spare. In each case `u` is at most
+-- B + rate x now. Assumes nothing.
 use mathlib.Core.Bool.{Bool, true, false, cond}
 use mathlib.Core.List.{List}
 use mathlib.Core.Logic.{_⊎_, inl, inr, ⊎-elim}

@@ -17,7 +17,7 @@ use Rattle.theorems.specs.Shipped.{passes, passedBy, UpperBy, LowerBy, L
 use Rattle.theorems.proofs.Cuts.{after-two, rate-silent}
 use Rattle.theorems.proofs.Follows.{Counts, first-room, later-room, no-room-denied}
 use Rattle.theorems.proofs.LowerExact.{lower-exact}
-use Rattle.theorems.proofs.Shipped.{still, passed-alike, verdict}
+use Rattle.theorems.proofs.Shipped.{passed-alike, verdict}
 use Rattle.theorems.proofs.Turns.{on-run, begin}
 
 module _ (f : Monitor) (p : MqttMonitor) (x : Id) where
@@ -48,7 +48,7 @@ shipped-exact p q x R before z o h r rz e =
       stretch = n .stretch;
       cut = n .cut;
       mine = n .mine;
-      passed = rw (one-matcher p (n .earlier) .left, passed-alike k (still p (n .earlier)) x (n .first ∷ n .stretch)) (n .passed);
+      passed = rw (one-matcher p (n .earlier) .left, passed-alike k x (n .first ∷ n .stretch)) (n .passed);
     }
 
 gives-first : (f : Monitor) → ExactBy f → LowerBy f

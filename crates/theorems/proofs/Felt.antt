@@ -2,10 +2,10 @@
 -- leaves it without raises the budget by one whole bucket (proofs/Budget.antt). Every other call leaves the buckets as they are. The run before the window brings the invariant to the
 -- window's first message, where counting begins anew with one whole bucket, and at its last message what was used is at most that bucket, one for each removal that was felt, and
 -- rate x D. Assumes nothing.
-use mathlib.Core.Bool.{Bool, true, false, cond, not, _&&_, false≢true}
+use mathlib.Core.Bool.{Bool, true, false, not, _&&_, false≢true}
 use mathlib.Core.List.{List, [], _∷_, _++_, append-assoc}
-use mathlib.Core.Path.{_≡_, refl, sym, ap, _∙_}
-use Prim.Native.Nat.{ℕ, _+_, _-_, _*_, _/_, _<_, _≤_}
+use mathlib.Core.Path.{_≡_, refl, ap}
+use Prim.Native.Nat.{ℕ, _+_, _-_, _*_, _<_, _≤_}
 use native.Mathlib.Nat.{add-zero, sub-add-cancel}
 use native.Mathlib.Omega.{arith}
 use borrow.Author.Tests.{lt-ltb, ltb-true}
@@ -20,7 +20,7 @@ use Rattle.tables.specs.declared.identity.Id.{Id}
 use Rattle.tables.specs.declared.buckets.RateBucket.{RateBucket}
 use Rattle.tables.proofs.buckets.BucketLaws.{one}
 use Rattle.tables.proofs.identity.IdentityLaws.{OfTopic}
-use Rattle.monitor.specs.Acts.{Other, Act, inspects, asks, Candidate, called, ours, afterAct, afterActs, messages, hasRemoved}
+use Rattle.monitor.specs.Acts.{Act, inspects, asks, Candidate, called, ours, afterAct, afterActs, messages}
 use Rattle.monitor.specs.Chosen.{Keeps}
 use Rattle.monitor.specs.Prepared.{Prepared}
 use Rattle.monitor.specs.Runs.{Call, Monitor, answer}
@@ -28,7 +28,7 @@ use Rattle.monitor.specs.declared.inspection.Inspected.{Inspected}
 use Rattle.monitor.specs.declared.state.MqttMonitor.{MqttMonitor}
 use Rattle.monitor.proofs.Acts.{Freed, kept, freed, beside}
 use Rattle.theorems.specs.Removals.{passedIn}
-use Rattle.theorems.specs.Run.{Matcher, time, isAllowed, used, rateOf, reaches, InOrder, OneRate, next}
+use Rattle.theorems.specs.Run.{Matcher, time, isAllowed, used, rateOf, reaches, OneRate, next}
 use Rattle.theorems.specs.Shipped.{passes}
 use Rattle.theorems.specs.Spared.{isFelt, felt, UpperFelt}
 use Rattle.theorems.proofs.Budget.{Inv, spare, bounded, quiet, reopen, spared, cleared, own, other}
@@ -78,7 +78,7 @@ module _ (matcher : Matcher) (f : Monitor) {m₀ : MqttMonitor} (agrees : (m : M
   go-on : {m : MqttMonitor} → Like m₀ m → (a : Act) → Like m₀ (afterAct (ours f) m a)
   go-on k (inspects c) = rw (agreed k c) (on matcher k c)
   go-on k (asks o) =
-      let b = beside f (k .sound) o in goes-on k (b .same) (b .sound) (named-freed (k .sound .buckets-sound .size) (k .named) (b .frees))
+      let b = beside (k .sound) o in goes-on k (b .same) (b .sound) (named-freed (k .sound .buckets-sound .size) (k .named) (b .frees))
 
   on-all : {m : MqttMonitor} → Like m₀ m → (acts : List Act) → Like m₀ (afterActs (ours f) m acts)
   unfolding afterActs
@@ -109,10 +109,10 @@ module _ (matcher : Matcher) (f : Monitor) {m₀ : MqttMonitor} (agrees : (m : M
       let d = felt (ours f) x (called m o .monitor) acts in
       let i = one (isFelt (ours f) x m o) in
       same-account (u + 1000000 * n) (u + 1000000 * n) (B + 1000000 * R * i + 1000000 * R * d) (B + 1000000 * R * (i + d)) refl (omega arith)
-      (run (go-on k (asks o)) acts h r (frees-paid (k .sound .buckets-sound .size) (beside f (k .sound) o .frees) v))
+      (run (go-on k (asks o)) acts h r (frees-paid (k .sound .buckets-sound .size) (beside (k .sound) o .frees) v))
 
 -- runs cut in two
-pub messages-two : (pre post : List Act) → messages (pre ++ post) ≡ messages pre ++ messages post
+messages-two : (pre post : List Act) → messages (pre ++ post) ≡ messages pre ++ messages post
 unfolding messages
 messages-two [] post = refl
 messages-two (inspects c ∷ pre) post = ap (λ l. c ∷ l) (messages-two pre post)

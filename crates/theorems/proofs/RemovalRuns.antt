@@ -3,7 +3,7 @@ use mathlib.Core.Path.{refl}
 use Prim.Native.Nat.{_≤_}
 use native.Mathlib.Omega.{arith}
 use Rattle.laws.specs.Lists.{every}
-use Rattle.slices.specs.Bytes.{bytes, same, has, countOf}
+use Rattle.slices.specs.Bytes.{same, has, countOf}
 use Rattle.topics.specs.Hashes.{fnv1a, djb2, suffixHash}
 use Rattle.topics.specs.Levels.{firstLevel, restLevels}
 use Rattle.topics.specs.Matching.{fromSlash, takesNone, takesEnd, matchBytes}
@@ -22,7 +22,7 @@ use Rattle.monitor.specs.Plan.{seenOf, spentOf, fedOf, denialOf, planFrom, plan
 use Rattle.monitor.specs.State.{wellFormed}
 use Rattle.theorems.specs.RemovalRuns.{once, twice, RemovalRuns}
 use Rattle.theorems.specs.Removals.{passedIn}
-use Rattle.theorems.specs.Run.{InOrder, single, later, done, next, firstRate, rateOf, reaches}
+use Rattle.theorems.specs.Run.{single, later, done, next, firstRate, rateOf, reaches}
 use Rattle.theorems.specs.Slips.{own}
 use Rattle.theorems.specs.Spared.{felt}
 use Rattle.theorems.specs.Tight.{hub, publish, crowd}

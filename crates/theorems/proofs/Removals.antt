@@ -4,20 +4,19 @@ use mathlib.Core.Bool.{Bool, true, false, not, _&&_, and-false}
 use mathlib.Core.List.{List, [], _∷_, _++_}
 use mathlib.Core.Path.{_≡_, refl, sym, ap, _∙_}
 use Prim.Native.Nat.{ℕ, _+_, _*_, _≤_}
-use native.Mathlib.Nat.{zero-add, le-trans, mul-le-mul-right}
+use native.Mathlib.Nat.{zero-add, mul-le-mul-right}
 use native.Mathlib.Omega.{arith}
 use lib.Dec.{eqb}
 use Rattle.laws.proofs.Cases.{by}
-use Rattle.topics.specs.Matching.{matchesBy}
-use Rattle.topics.specs.declared.matching.Matching.{Matching}
 use Rattle.tables.specs.declared.identity.Id.{Id}
 use Rattle.tables.proofs.buckets.BucketLaws.{one}
 use Rattle.monitor.specs.Acts.{Act, inspects, asks, Candidate, called, ours, afterActs, isRemoval, hasRemoved, removals}
 use Rattle.monitor.specs.Prepared.{Prepared}
-use Rattle.monitor.specs.Runs.{Call, Monitor, answer, shipped}
+use Rattle.monitor.specs.Runs.{Monitor, answer, shipped}
 use Rattle.monitor.specs.State.{matcherOf, numberOf}
 use Rattle.monitor.specs.declared.state.MqttMonitor.{MqttMonitor}
 use Rattle.monitor.proofs.Acts.{refused-kept}
+use Rattle.monitor.proofs.Chosen.{as-chosen}
 use Rattle.theorems.specs.Removals.{passedIn, UpperRemoved, UpperRemovedBy, withoutFailed, FailedFree}
 use Rattle.theorems.specs.Run.{Matcher}
 use Rattle.theorems.specs.Shipped.{passes}
@@ -57,7 +56,7 @@ removed-under matcher m p = all-counted matcher (ours (answer matcher)) m (felt-
 
 -- of the shipped calls
 pub felt-shipped : UpperFeltBy (ours shipped)
-felt-shipped p q = bound (matcherOf p) shipped p q (λ n e c. ap (λ (matching : Matching). answer (matchesBy matching) n c) e)
+felt-shipped p q = bound (matcherOf p) shipped p q (as-chosen p)
 
 pub removed-shipped : UpperRemovedBy (ours shipped)
 removed-shipped = gives-removed (ours shipped) felt-shipped

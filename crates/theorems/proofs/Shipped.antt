@@ -10,7 +10,7 @@ use Rattle.monitor.specs.Runs.{Call, answer, shipped, afterBy, after}
 use Rattle.monitor.specs.State.{matcherOf}
 use Rattle.monitor.specs.declared.inspection.Inspected.{Inspected}
 use Rattle.monitor.specs.declared.state.MqttMonitor.{MqttMonitor}
-use Rattle.monitor.proofs.Chosen.{one-matcher, inspect-keeps}
+use Rattle.monitor.proofs.Chosen.{one-matcher, as-chosen}
 use Rattle.theorems.specs.Run.{isAllowed, reaches, allowedOf}
 use Rattle.theorems.specs.Shipped.{passes, passedBy, ShippedLimits}
 use Rattle.theorems.proofs.Lower.{lower-first, lower-later}
@@ -23,13 +23,13 @@ pub still : (p : MqttMonitor) (cs : List Call) → Keeps p (after (matcherOf p) 
 still p cs = rw (one-matcher p cs .left) at (one-matcher p cs .choice)
 
 -- what is counted of a run is what specs/Run.antt counts
-pub passed-alike : {p m : MqttMonitor} → Like p m → Keeps p m → (x : Id) (cs : List Call) → passedBy shipped p m x cs ≡ allowedOf (matcherOf p) m x cs
+pub passed-alike : {p m : MqttMonitor} → Like p m → (x : Id) (cs : List Call) → passedBy shipped p m x cs ≡ allowedOf (matcherOf p) m x cs
 unfolding passedBy allowedOf reaches
-passed-alike k e x [] = refl
-passed-alike {p} {m} k e x (c ∷ cs) =
-    let a : shipped m c ≡ answer (matcherOf p) m c = ap (λ (matching : Matching). answer (matchesBy matching) m c) e in
+passed-alike k x [] = refl
+passed-alike {p} {m} k x (c ∷ cs) =
+    let a : shipped m c ≡ answer (matcherOf p) m c = as-chosen p m (k .same .choice-same) c in
     let v : passes shipped m c ≡ isAllowed (matcherOf p) m c = ap (λ (r : Inspected). r .result .allowed) a in
-    rw (v, a, rate-like (matcherOf p) k c, passed-alike (on (matcherOf p) k c) (inspect-keeps (matcherOf p) m c ∙ e) x cs)
+    rw (v, a, rate-like (matcherOf p) k c, passed-alike (on (matcherOf p) k c) x cs)
 
 -- and so is the verdict after one
 pub verdict : (p : MqttMonitor) (cs : List Call) (z : Call) → passes shipped (afterBy shipped p cs) z ≡ isAllowed (matcherOf p) (after (matcherOf p) p cs) z

@@ -13,7 +13,7 @@ use Rattle.monitor.specs.State.{matcherOf}
 use Rattle.monitor.specs.declared.state.MqttMonitor.{MqttMonitor}
 use Rattle.theorems.specs.Limits.{Upper}
 use Rattle.theorems.specs.Removals.{passedIn, UpperRemoved, UpperRemovedBy}
-use Rattle.theorems.specs.Run.{Matcher, time, isAllowed, rateOf, reaches, InOrder, OneRate, allowedOf}
+use Rattle.theorems.specs.Run.{Matcher, time, reaches, InOrder, OneRate, allowedOf}
 use Rattle.theorems.specs.Shipped.{passes, passedBy, UpperBy}
 use Rattle.theorems.proofs.Removals.{removed-under}
 use Rattle.theorems.proofs.Turns.{Like, rate-like, on, on-run, begin}
