@@ -195,8 +195,9 @@ impl<'a> Reader<'a> {
         let mut topic = bytes(words.get(4)?.trim_start_matches('-'))?;
         let claimed = words.get(7).map_or(Some(topic.len()), |claimed| claimed.parse().ok())?;
         topic.truncate(claimed.min(128));
-        let limited = words[2] == "3" && !topic.is_empty() && !contains_invalid_publish_char(&topic);
-        let Some(rate) = before.rate(&topic).filter(|_| limited) else { return Some(()) };
+        // Only such a topic may be matched.
+        let plain = words[2] == "3" && !topic.is_empty() && !contains_invalid_publish_char(&topic);
+        let Some(rate) = plain.then(|| before.rate(&topic)).flatten() else { return Some(()) };
         let found = self.topics.entry(id_words(&identity(&topic))).or_default();
         let known = if found.messages.is_empty() { Some(rate) } else { found.rate };
         found.rate = known.filter(|&known| known == rate);
