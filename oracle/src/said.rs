@@ -20,7 +20,7 @@ pub struct Look<'a> {
     buckets: &'a str,
 }
 
-/// All that was said, up to where it is no longer understood.
+/// Each line with what was said to it; nothing where that is not understood.
 pub fn read(mut text: &str) -> impl Iterator<Item = Option<Said<'_>>> {
     std::iter::from_fn(move || (!text.is_empty()).then(|| said(&mut text)))
 }
@@ -49,7 +49,8 @@ fn field<'a>(record: &'a str, name: &str) -> Option<&'a str> {
 }
 
 impl<'a> Look<'a> {
-    /// The rate under which a topic reaches the limiter; nothing if it does not.
+    /// The rate under which a topic reaches the limiter; nothing if it does not. Where no field was set by hand, the rules
+    /// that count are the first that are listed.
     pub fn rate(&self, topic: &[u8]) -> Option<u16> {
         let mut live = self.rules.split('\n').skip(1).take(self.count).filter(|rule| field(rule, "live") == Some("1"));
         let pattern = |rule| field(rule, "pattern").and_then(bytes);

@@ -127,13 +127,18 @@ impl Scribe<'_> {
 
     /// As many lines as a script has, each of any of these by its weight.
     fn turns(&mut self, turns: &[(usize, Turn)]) {
+        self.some_turns(TURNS, turns);
+    }
+
+    /// The same, so many times.
+    fn some_turns(&mut self, times: usize, turns: &[(usize, Turn)]) {
         let weighted: Vec<Turn> = turns.iter().flat_map(|&(weight, turn)| vec![turn; weight]).collect();
-        for _ in 0..TURNS {
+        for _ in 0..times {
             self.random.pick(&weighted)(self);
         }
     }
 
-    /// The same, of all calls that change a state and some of them more often.
+    /// As many, of all calls that change a state and some of them more often.
     fn turns_of_all(&mut self, often: &[(usize, Turn)]) {
         self.turns(&[&CHANGES.map(|turn| (1, turn)), often].concat());
     }
@@ -693,30 +698,27 @@ fn removals(scribe: &mut Scribe) {
             _ => scribe.message_of(PUBLISH, &topic, 0, b""),
         }
     }
-    let turns: [Turn; 16] = [
-        wait,
-        wait,
-        burst_and_again,
-        burst_and_again,
-        burst_and_again,
-        replace_and_again,
-        replace_and_again,
-        replace_and_again,
-        publish,
-        connect,
-        remove_bucket,
-        remove_nothing,
-        remove_tracker,
-        set_storm,
-        validate_rules,
-        ask_counters,
-    ];
     // Those of a crowd that come first have just passed, and are the oldest.
     if scribe.topics.len() > 3 {
         replace_and_again(scribe);
         replace_and_again(scribe);
     }
-    for _ in 0..14 {
-        scribe.random.pick(&turns)(scribe);
-    }
+    // Most of them are several lines.
+    scribe.some_turns(
+        TURNS / 3,
+        &[
+            (2, wait),
+            (3, burst_and_again),
+            (3, replace_and_again),
+            (1, publish),
+            (1, claimed),
+            (1, connect),
+            (1, remove_bucket),
+            (1, remove_nothing),
+            (1, remove_tracker),
+            (1, set_storm),
+            (1, validate_rules),
+            (1, ask_counters),
+        ],
+    );
 }

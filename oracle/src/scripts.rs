@@ -112,7 +112,7 @@ impl Run<'_> {
         }
     }
 
-    /// Counts the windows of what a side said. A fault is looked for again in fewer lines.
+    /// Counts the windows of what a side said, to one script or to more. A fault is looked for again in fewer lines.
     fn windows(&mut self, side: usize, said: &str) {
         let Some(fault) = self.sides[side].read(said) else { return };
         let again = |lines: &[String]| Windows::new("").read(&says(self.program, side, lines));

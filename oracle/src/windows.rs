@@ -139,7 +139,7 @@ impl<'a> Reader<'a> {
         let before = self.said.last()?.look;
         self.said.push(said);
         match words[0] {
-            "remove_rate_bucket" if done || refused => self.removal(before, done, windows),
+            "remove_rate_bucket" => self.removal(before, done, windows),
             _ if refused => {}
             "inspect" | "inspect_claimed" => self.message(before, &words[1..], windows)?,
             "remove_ewma_tracker" => self.calls.trackers += 1,
@@ -151,7 +151,7 @@ impl<'a> Reader<'a> {
                 self.end(windows);
                 self.run = if self.by_hand { Run::Over } else { Run::Fresh };
             }
-            // A field.
+            // A field that is set by hand.
             _ => {
                 self.end(windows);
                 self.by_hand = true;
@@ -169,21 +169,20 @@ impl<'a> Reader<'a> {
             self.calls.removed += 1;
             match before.taken(&after) {
                 Some(holder) => self.topics.entry(holder.into()).or_default().own += 1,
-                None => {
-                    self.wrong(last, last + 1, "a removal that does not take one bucket and leave the others".into())
-                }
+                None => self.wrong(last, last + 1, "a removal that does not take one live bucket alone".into()),
             }
         } else {
             self.calls.refused += 1;
             if !before.same_buckets(&after) {
-                self.wrong(last, last + 1, "a removal that is refused, and the buckets are others".into());
+                self.wrong(last, last + 1, "a removal that is refused and changes a bucket".into());
             }
         }
     }
 
     /// A message that was inspected.
     fn message(&mut self, before: Look<'a>, words: &[&str], windows: &mut Windows) -> Option<()> {
-        let (line, at) = (self.said.len() - 1, words[0].parse().ok()?);
+        let (line, at) = (self.said.len() - 1, words.first()?.parse().ok()?);
+        let allowed = self.said[line].answer.strip_prefix(" allowed=")?.starts_with('1');
         match self.run {
             Run::Over => return Some(()),
             Run::At(last) if at < last => {
@@ -202,7 +201,7 @@ impl<'a> Reader<'a> {
         let known = if found.messages.is_empty() { Some(rate) } else { found.rate };
         found.rate = known.filter(|&known| known == rate);
         let before = found.messages.last().map_or(0, |last| last.with);
-        let with = before + usize::from(self.said[line].answer.starts_with(" allowed=1"));
+        let with = before + usize::from(allowed);
         let calls = Between { own: found.own, ..self.calls };
         found.messages.push(Message { line, at, before, with, calls });
         Some(())
