@@ -705,7 +705,7 @@ fn removals(scribe: &mut Scribe) {
     }
     // Most of them are several lines.
     scribe.some_turns(
-        TURNS / 3,
+        TURNS / 5,
         &[
             (2, wait),
             (3, burst_and_again),
