@@ -91,9 +91,7 @@ impl Args<'_> {
     }
 
     fn bytes(&self, k: usize) -> Vec<u8> {
-        let digits = self.0[k];
-        assert!(digits.len() % 2 == 0, "{digits}");
-        (0..digits.len() / 2).map(|i| u8::from_str_radix(&digits[2 * i..2 * i + 2], 16).expect(digits)).collect()
+        bytes(self.0[k]).expect(self.0[k])
     }
 
     fn action(&self, k: usize) -> TopicAction {
@@ -256,6 +254,12 @@ pub fn hex(bytes: &[u8]) -> String {
     bytes.iter().flat_map(|byte| [digit(byte / 16), digit(byte % 16)]).collect()
 }
 
+/// The bytes that stand in hex, if they do.
+pub fn bytes(digits: &str) -> Option<Vec<u8>> {
+    let byte = |i| u8::from_str_radix(digits.get(i..i + 2)?, 16).ok();
+    (0..digits.len()).step_by(2).map(byte).collect()
+}
+
 /// Bytes in hex up to the last that is not zero.
 fn used(bytes: &[u8]) -> String {
     let used = bytes.iter().rposition(|&byte| byte != 0).map_or(0, |last| last + 1);
@@ -274,7 +278,8 @@ fn policy_words(policy: QosPolicy) -> String {
     }
 }
 
-fn id_words(id: &Id) -> String {
+/// A topic identity, as it stands in a record.
+pub fn id_words(id: &Id) -> String {
     let (first, bytes) = (id.prefix_len, used(&id.prefix));
     format!("hash={} hash2={} len={} suffix={} first={first} bytes={bytes}", id.hash, id.hash2, id.len, id.suffix_hash)
 }

@@ -184,9 +184,17 @@ impl Play<'_> {
             self.met.count("window of 16", (window.count == 16).into());
         }
     }
+}
 
-    /// The script as the program reads it: each line with a look at the whole state behind it.
-    pub fn text(&self) -> String {
-        self.lines.iter().map(|line| format!("{line}\nall\n")).collect()
-    }
+/// A script as the program reads it: each line with a look at the whole state behind it.
+pub fn text(lines: &[String]) -> String {
+    lines.iter().map(|line| format!("{line}\nall\n")).collect()
+}
+
+/// What the original says to it.
+pub fn said(lines: &[String]) -> String {
+    let mut met = Met::default();
+    let mut play = Play::new(&mut met);
+    lines.iter().for_each(|line| play.line(line.clone()));
+    play.said
 }

@@ -9,6 +9,7 @@ use crate::pairs::{Pairs, reblocked};
 use crate::play::Play;
 use crate::tally::Random;
 use vs_mqtt_monitor::{MqttMonitor, state};
+use vs_types_embedded::fnv1a_hash;
 
 const CONNECT: u8 = 1;
 const PUBLISH: u8 = 3;
@@ -63,6 +64,11 @@ pub const MAKERS: &[Maker] = &[
             "tokens above the capacity cut",
         ],
     ),
+    (
+        "removals on a live hub",
+        removals,
+        &["bucket removed", "bucket replaced", "kind 5", "kind 6", "remove_rate_bucket refused 7"],
+    ),
 ];
 
 /// One script of a maker.
@@ -77,6 +83,7 @@ pub fn make<'a>(maker: &Maker, seed: u64, pairs: &'a Pairs, met: &'a mut Met) ->
         clients: words(&["", "c1", "c2"]),
         rates: vec![0, 1, 2, 65_535],
         good: 15,
+        forward: false,
     };
     scribe.now = scribe.random.pick(&[0, 0, 1_000_000, 10_000_000_000, u64::MAX - 1_000_000_000]);
     let first = if scribe.random.one_in(4) { NEW_DENY_DEFAULT } else { NEW };
@@ -106,6 +113,8 @@ pub struct Scribe<'a> {
     rates: Vec<u16>,
     /// Good verdicts for one that is bad.
     good: usize,
+    /// Whether the clock never goes back.
+    forward: bool,
 }
 
 /// One line, chosen and added.
@@ -118,13 +127,18 @@ impl Scribe<'_> {
 
     /// As many lines as a script has, each of any of these by its weight.
     fn turns(&mut self, turns: &[(usize, Turn)]) {
+        self.some_turns(TURNS, turns);
+    }
+
+    /// The same, so many times.
+    fn some_turns(&mut self, times: usize, turns: &[(usize, Turn)]) {
         let weighted: Vec<Turn> = turns.iter().flat_map(|&(weight, turn)| vec![turn; weight]).collect();
-        for _ in 0..TURNS {
+        for _ in 0..times {
             self.random.pick(&weighted)(self);
         }
     }
 
-    /// The same, of all calls that change a state and some of them more often.
+    /// As many, of all calls that change a state and some of them more often.
     fn turns_of_all(&mut self, often: &[(usize, Turn)]) {
         self.turns(&[&CHANGES.map(|turn| (1, turn)), often].concat());
     }
@@ -163,7 +177,8 @@ impl Scribe<'_> {
             }
         };
         if !marks.is_empty() {
-            self.now = self.random.pick(&marks);
+            let least = if self.forward { self.now } else { 0 };
+            self.now = self.random.pick(&marks).max(least);
         }
     }
 
@@ -194,6 +209,18 @@ impl Scribe<'_> {
 
     fn rule(&mut self, pattern: &[u8], action: &str, policy: &str, rate: u16) {
         self.line(format!("add_rule {} {action} {policy} {rate}", arg(pattern)));
+    }
+
+    fn remove_bucket_of(&mut self, topic: &[u8]) {
+        self.line(format!("remove_rate_bucket {}", arg(topic)));
+    }
+
+    /// More of a topic at one instant than the highest rate allows, if that is a low one.
+    fn burst(&mut self, topic: &[u8]) {
+        let rates = self.rates.iter().copied().filter(|&rate| rate < 10);
+        for _ in 0..=rates.max().unwrap_or(2) {
+            self.message_of(PUBLISH, topic, 0, b"");
+        }
     }
 
     /// A rule's place: mostly one that counts.
@@ -302,7 +329,7 @@ fn claimed(scribe: &mut Scribe) {
 
 fn remove_bucket(scribe: &mut Scribe) {
     let topic = scribe.topic();
-    scribe.line(format!("remove_rate_bucket {}", arg(&topic)));
+    scribe.remove_bucket_of(&topic);
 }
 
 fn remove_tracker(scribe: &mut Scribe) {
@@ -601,4 +628,97 @@ fn records(scribe: &mut Scribe) {
     scribe.topics = words(&["a/b", "b", "c"]);
     scribe.rule(b"+", "allow", "any", 2);
     scribe.turns_of_all(&[(30, set_record), (50, publish), (12, connect), (12, add_rule)]);
+}
+
+/// Near the time of a token, by seconds, or seldom for so long that buckets expire.
+fn wait(scribe: &mut Scribe) {
+    let token = 1_000_000 / u64::from(scribe.rates[0]);
+    let second = 1_000_000;
+    let steps = [1, 1, token - 1, token, token, token + 1, second, second, 3 * second, 300 * second];
+    scribe.now = scribe.now.saturating_add(scribe.random.pick(&steps));
+}
+
+/// A burst, its bucket removed, and a burst again.
+fn burst_and_again(scribe: &mut Scribe) {
+    let topic = scribe.topic();
+    scribe.burst(&topic);
+    for _ in 0..1 + scribe.random.below(2) {
+        scribe.remove_bucket_of(&topic);
+        scribe.burst(&topic);
+    }
+}
+
+/// The oldest bucket is replaced, if newcomers find a table that is full or nearly; another's removal frees a place, and
+/// the topic that was replaced comes again.
+fn replace_and_again(scribe: &mut Scribe) {
+    let buckets = || (0..32).filter_map(|place| state::bucket(&scribe.play.original.monitor, place));
+    let (held, oldest) = (buckets().count(), buckets().min_by_key(|bucket| bucket.at));
+    let holds = |topic: &&Vec<u8>| buckets().any(|bucket| bucket.id.hash == fnv1a_hash(topic));
+    let mut holders: Vec<Vec<u8>> = scribe.topics.iter().filter(holds).cloned().collect();
+    let is_oldest = |topic: &Vec<u8>| oldest.as_ref().is_some_and(|oldest| oldest.id.hash == fnv1a_hash(topic));
+    let Some(replaced) = holders.iter().position(is_oldest) else { return publish(scribe) };
+    let replaced = holders.swap_remove(replaced);
+    scribe.now = scribe.now.saturating_add(1);
+    for _ in held.max(29)..33 {
+        let newcomer = format!("n/{}", scribe.random.below(1000));
+        scribe.message_of(PUBLISH, newcomer.as_bytes(), 0, b"");
+    }
+    let other = scribe.random.below(holders.len().max(1));
+    scribe.remove_bucket_of(holders.get(other).unwrap_or(&replaced));
+    scribe.burst(&replaced);
+}
+
+/// A topic that holds nothing.
+fn remove_nothing(scribe: &mut Scribe) {
+    let topic = scribe.random.pick(&[&b"m"[..], b"m/", b"m/00", b"-", b""]);
+    scribe.remove_bucket_of(topic);
+}
+
+/// Only calls between which request C-24 promises a bound: no rule changes, and the clock never goes back. Few topics,
+/// two of equal hashes, or about as many as there are buckets.
+fn removals(scribe: &mut Scribe) {
+    scribe.forward = true;
+    let crowd = 31 + scribe.random.below(6);
+    let known = scribe.random.pick(&[1, 2, 3, crowd, crowd]);
+    scribe.topics = (0..known).map(|i| format!("m/{i}").into_bytes()).collect();
+    if scribe.random.one_in(5) {
+        scribe.topics = scribe.pairs.pick(&mut scribe.random).to_vec();
+    }
+    let (first, last) = (scribe.topics[0].clone(), scribe.topics[scribe.topics.len() - 1].clone());
+    let patterns = [&first[..], &last, b"#"];
+    scribe.rates.clear();
+    for pattern in &patterns[scribe.random.below(3)..] {
+        let (policy, rate) = (scribe.random.pick(&POLICIES), scribe.random.pick(&[1, 1, 1, 2, 2, 3, 5, 1000, 65_535]));
+        scribe.rule(pattern, "allow", policy, rate);
+        scribe.rates.push(rate);
+    }
+    for topic in scribe.topics.clone() {
+        match scribe.random.below(3) {
+            0 => scribe.burst(&topic),
+            _ => scribe.message_of(PUBLISH, &topic, 0, b""),
+        }
+    }
+    // Those of a crowd that come first have just passed, and are the oldest.
+    if scribe.topics.len() > 3 {
+        replace_and_again(scribe);
+        replace_and_again(scribe);
+    }
+    // Most of them are several lines.
+    scribe.some_turns(
+        TURNS / 5,
+        &[
+            (2, wait),
+            (3, burst_and_again),
+            (3, replace_and_again),
+            (1, publish),
+            (1, claimed),
+            (1, connect),
+            (1, remove_bucket),
+            (1, remove_nothing),
+            (1, remove_tracker),
+            (1, set_storm),
+            (1, validate_rules),
+            (1, ask_counters),
+        ],
+    );
 }

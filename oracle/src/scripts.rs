@@ -1,27 +1,33 @@
 //! scripts PROGRAM [--seed N]: random scripts of calls through the built program of crates/calls against the Rust
 //! original with buckets of request C-17: every answer, and every field of the state after each line. What the scripts
-//! met is counted; anything that was never met is a failure. Over an original that chooses rules by MQTT 3.1.1 the
-//! scripts make monitors that do.
+//! met is counted; anything that was never met is a failure. In what each of the two said, apart from the other, the
+//! bound of request C-24 must hold. Over an original that chooses rules by MQTT 3.1.1 the scripts make monitors that do.
 
 mod answers;
 mod make;
 mod met;
 mod pairs;
 mod play;
+mod said;
 mod scribe;
 mod tally;
+mod windows;
 
 use met::Met;
 use pairs::Pairs;
-use play::Play;
 use scribe::{MAKERS, Maker};
+use std::fmt::Display;
 use std::io::{Read, Write};
 use std::process::{Command, Stdio};
 use tally::{Class, Random};
 use vs_mqtt_monitor::matcher::STANDARD;
+use windows::{Fault, Windows};
 
 /// Scripts of each maker, for each seed; fewer of monitors that differ from the port's by the choice of a rule alone.
 const SCRIPTS: usize = if STANDARD { 70 } else { 210 };
+
+/// Who says something to a script.
+const SIDES: [&str; 2] = ["original", "program"];
 
 /// The longest text that the program reads.
 const LONGEST: usize = 65_536;
@@ -31,7 +37,8 @@ fn main() {
     let (program, words) = words.split_first().expect("usage: scripts PROGRAM [--seed N]");
     let seeds = tally::seeds(words);
     let pairs = Pairs::search();
-    let mut run = Run { program, met: Met::default(), classes: Vec::new() };
+    let sides = SIDES.map(|side| Windows::new(&format!("what a removal can cost, as the {side} says it")));
+    let mut run = Run { program, met: Met::default(), sides, classes: Vec::new() };
     for seed in seeds {
         let mut random = Random(seed);
         for maker in MAKERS {
@@ -39,6 +46,7 @@ fn main() {
         }
     }
     run.met();
+    run.classes.extend(run.sides.map(Windows::seen));
     if !tally::report(&run.classes) {
         std::process::exit(1);
     }
@@ -54,6 +62,7 @@ struct Script {
 struct Run<'a> {
     program: &'a str,
     met: Met,
+    sides: [Windows; 2],
     classes: Vec<Class>,
 }
 
@@ -65,7 +74,7 @@ impl Run<'_> {
         let (mut text, mut together) = (String::new(), Vec::new());
         for _ in 0..SCRIPTS {
             let play = scribe::make(maker, random.next(), pairs, &mut self.met);
-            let (more, lines, said) = (play.text(), play.lines, play.said);
+            let (more, lines, said) = (play::text(&play.lines), play.lines, play.said);
             if text.len() + more.len() > LONGEST {
                 self.compare(&mut class, &text, &together);
                 text.clear();
@@ -88,14 +97,29 @@ impl Run<'_> {
         let same = expected.flatten().eq(&said);
         for script in scripts {
             if !same && differs(self.program, &script.lines).is_some() {
-                let smaller = if class.clean() { shrink(self.program, &script.lines) } else { script.lines.clone() };
-                class.differ(smaller.len(), || saved(self.program, &smaller, self.classes.len()));
+                let differ = |lines: &[String]| differs(self.program, lines);
+                let smaller = if class.clean() { shrink(&script.lines, differ) } else { script.lines.clone() };
+                class.differ(smaller.len(), || {
+                    saved(&smaller, self.classes.len(), &differ(&smaller).unwrap_or_default())
+                });
             }
             class.agree();
+            self.windows(0, &script.said);
         }
+        self.windows(1, &String::from_utf8_lossy(&said));
         if !same && class.clean() {
             class.differ(0, || "scripts that differ only one after another".into());
         }
+    }
+
+    /// Counts the windows of what a side said, to one script or to more. A fault is looked for again in fewer lines.
+    fn windows(&mut self, side: usize, said: &str) {
+        let Some(fault) = self.sides[side].read(said) else { return };
+        let again = |lines: &[String]| Windows::new("").read(&says(self.program, side, lines));
+        let class = &mut self.sides[side].class;
+        let lines = if class.clean() { shrink(&fault.lines, again) } else { fault.lines.clone() };
+        let Fault { lines, window, words } = again(&lines).unwrap_or(fault);
+        class.differ(window, || saved(&lines, SIDES[side], &format!("the last {window}: {words}")));
     }
 
     /// One class for all that a run must have met.
@@ -128,18 +152,23 @@ fn said(program: &str, text: &str) -> Vec<u8> {
     said
 }
 
+/// What a side says to a script.
+fn says(program: &str, side: usize, lines: &[String]) -> String {
+    if SIDES[side] == "original" {
+        play::said(lines)
+    } else {
+        String::from_utf8_lossy(&said(program, &play::text(lines))).into_owned()
+    }
+}
+
 /// The first line of the answers that differs, if any, with the line of the script that it belongs to.
 fn differs(program: &str, lines: &[String]) -> Option<String> {
-    let mut met = Met::default();
-    let mut play = Play::new(&mut met);
-    lines.iter().for_each(|line| play.line(line.clone()));
-    let said = said(program, &play.text());
-    if said == play.said.as_bytes() {
+    let [expected, said] = [0, 1].map(|side| says(program, side, lines));
+    if said == expected {
         return None;
     }
-    let said = String::from_utf8_lossy(&said);
     let mut last = "";
-    for (port, rust) in said.lines().chain(["(the end)"]).zip(play.said.lines().chain(["(the end)"])) {
+    for (port, rust) in said.lines().chain(["(the end)"]).zip(expected.lines().chain(["(the end)"])) {
         if let Some((line, _)) = rust.split_once(" ->").filter(|(line, _)| *line != "all") {
             last = line;
         }
@@ -150,15 +179,15 @@ fn differs(program: &str, lines: &[String]) -> Option<String> {
     Some("one answer is the beginning of the other".into())
 }
 
-/// Leaves out lines for as long as the answers still differ, long runs first. The first stays, which makes the monitor.
-fn shrink(program: &str, lines: &[String]) -> Vec<String> {
+/// Leaves out lines for as long as something is still found, long runs first. The first stays, which makes the monitor.
+fn shrink<T>(lines: &[String], found: impl Fn(&[String]) -> Option<T>) -> Vec<String> {
     let mut lines = lines.to_vec();
     let mut run = lines.len();
     while run > 0 {
         let mut from = 1;
         while from + run <= lines.len() {
             let fewer = [&lines[..from], &lines[from + run..]].concat();
-            if differs(program, &fewer).is_some() {
+            if found(&fewer).is_some() {
                 lines = fewer;
             } else {
                 from += run;
@@ -169,11 +198,11 @@ fn shrink(program: &str, lines: &[String]) -> Vec<String> {
     lines
 }
 
-/// Writes a script beside this program, and says where, what it is and what is wrong with the answer.
-fn saved(program: &str, lines: &[String], number: usize) -> String {
+/// Writes a script beside this program, and says where, what it is and what is wrong with it.
+fn saved(lines: &[String], name: impl Display, wrong: &str) -> String {
     let matcher = if STANDARD { "standard-" } else { "" };
-    let path = std::env::current_exe().unwrap().with_file_name(format!("differs-{matcher}{number}.script"));
-    std::fs::write(&path, lines.iter().map(|line| format!("{line}\nall\n")).collect::<String>()).unwrap();
+    let path = std::env::current_exe().unwrap().with_file_name(format!("differs-{matcher}{name}.script"));
+    std::fs::write(&path, play::text(lines)).unwrap();
     let short = if lines.len() <= 12 { format!("\n        {}", lines.join("\n        ")) } else { String::new() };
-    format!("{} of {} lines: {}{short}", path.display(), lines.len(), differs(program, lines).unwrap_or_default())
+    format!("{} of {} lines: {wrong}{short}", path.display(), lines.len())
 }
