@@ -48,6 +48,12 @@ fn field<'a>(record: &'a str, name: &str) -> Option<&'a str> {
     record.split(' ').find_map(|word| word.strip_prefix(name)?.strip_prefix('='))
 }
 
+/// Who holds a bucket that is live.
+fn holder(record: &str) -> Option<&str> {
+    let holder = record.find("hash=").map(|at| &record[at..]);
+    holder.filter(|_| field(record, "live") == Some("1"))
+}
+
 impl<'a> Look<'a> {
     /// The rate under which a topic reaches the limiter; nothing if it does not. Where no field was set by hand, the rules
     /// that count are the first that are listed.
@@ -70,7 +76,11 @@ impl<'a> Look<'a> {
         let same = before.clone().zip(after.clone()).take_while(|(before, after)| before == after).count();
         let gone = before.clone().nth(same)?;
         let others = before.skip(same + 1).eq(after.skip(same));
-        let holder = gone.find("hash=").map(|at| &gone[at..]);
-        holder.filter(|_| others && field(gone, "live") == Some("1"))
+        holder(gone).filter(|_| others)
+    }
+
+    /// Whether a topic, by what tells it from others, has a bucket.
+    pub fn holds(&self, id: &str) -> bool {
+        self.buckets.split('\n').any(|record| holder(record) == Some(id))
     }
 }

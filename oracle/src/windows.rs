@@ -1,7 +1,8 @@
 //! What a removal can cost (request C-24), counted in what one side said and in nothing else: from one message of a topic
 //! that reaches the limiter under a rate R to another D microseconds later, both counted, with K removals of buckets
 //! between the two, of any topics, at most (K + 1) x R + R x D / 1,000,000 are allowed, rounded down. With no removal it
-//! is the upper half of demand 3. And a removal takes one bucket, or is refused and takes none.
+//! is the upper half of demand 3. Of K those removals are counted that the topic felt, after which it had no bucket: so
+//! what is held is less than the request's bound, or that. And a removal takes one bucket, or is refused and takes none.
 //!
 //! A run begins with a constructor, or with a reset of a state in which nothing was set by hand. Up to its first message
 //! any call may come. It ends where a rule is changed, a field is set by hand or the time goes back.
@@ -15,7 +16,7 @@ use vs_mqtt_monitor::state::Id;
 use vs_types_embedded::fnv1a_hash;
 
 /// What windows must have met.
-const MET: [&str; 11] = [
+const MET: [&str; 13] = [
     "with no removal",
     "with one",
     "with more",
@@ -24,6 +25,8 @@ const MET: [&str; 11] = [
     "at the bound with more",
     "over it if removals did not count",
     "over it so by removals of others alone",
+    "with one that was not felt",
+    "at the bound of those that were felt, below the other",
     "with a refused removal",
     "with a tracker removed",
     "with a storm setting",
@@ -51,6 +54,8 @@ struct Between {
     removed: usize,
     /// Those of the topic itself.
     own: usize,
+    /// Those after which the topic had no bucket.
+    felt: usize,
     refused: usize,
     trackers: usize,
     settings: usize,
@@ -71,6 +76,7 @@ struct Message {
 struct Topic {
     rate: Option<u16>,
     own: usize,
+    felt: usize,
     messages: Vec<Message>,
 }
 
@@ -167,6 +173,9 @@ impl<'a> Reader<'a> {
         windows.removals[usize::from(done)] += 1;
         if done {
             self.calls.removed += 1;
+            for (id, topic) in &mut self.topics {
+                topic.felt += usize::from(!after.holds(id));
+            }
             match before.taken(&after) {
                 Some(holder) => self.topics.entry(holder.into()).or_default().own += 1,
                 None => self.wrong(last, last + 1, "a removal that does not take one live bucket alone".into()),
@@ -202,7 +211,7 @@ impl<'a> Reader<'a> {
         found.rate = known.filter(|&known| known == rate);
         let before = found.messages.last().map_or(0, |last| last.with);
         let with = before + usize::from(allowed);
-        let calls = Between { own: found.own, ..self.calls };
+        let calls = Between { own: found.own, felt: found.felt, ..self.calls };
         found.messages.push(Message { line, at, before, with, calls });
         Some(())
     }
@@ -222,9 +231,9 @@ impl<'a> Reader<'a> {
 
     fn window(&mut self, id: &str, rate: u128, first: &Message, last: &Message, windows: &mut Windows) {
         let (allowed, past) = ((last.with - first.before) as u128, last.at - first.at);
-        let removed = last.calls.removed - first.calls.removed;
+        let (removed, felt) = (last.calls.removed - first.calls.removed, last.calls.felt - first.calls.felt);
         let least = rate + rate * u128::from(past) / 1_000_000;
-        let bound = least + rate * removed as u128;
+        let [bound, most] = [removed, felt].map(|removals| least + rate * removals as u128);
         let (at, over) = (allowed == bound, allowed > least);
         let met = [
             removed == 0,
@@ -235,15 +244,17 @@ impl<'a> Reader<'a> {
             removed > 1 && at,
             over,
             over && first.calls.own == last.calls.own,
+            felt < removed,
+            allowed == most && most < bound,
             first.calls.refused < last.calls.refused,
             first.calls.trackers < last.calls.trackers,
             first.calls.settings < last.calls.settings,
         ];
         windows.met.iter_mut().zip(met).for_each(|(times, met)| *times += u64::from(met));
         windows.class.agree();
-        if allowed > bound {
+        if allowed > most {
             let words = format!(
-                "{allowed} allowed of {id}, at most {bound} by rate {rate}, {past} microseconds and {removed} removals"
+                "{allowed} allowed of {id}, at most {most} by rate {rate}, {past} microseconds and {felt} of {removed} removals"
             );
             self.wrong(first.line, last.line + 1, words);
         }
