@@ -43,6 +43,8 @@ removal-runs =
             prepared = hub-prepared 2;
             in-order = later at (later at (later at (later half (later whole (single (own 1000000))))));
             one-rate = next (λ _. refl) (next (λ _. refl) (next (λ _. refl) (next (λ _. refl) (next (λ _. refl) (next (λ _. refl) done)))));
+            reached-first = refl;
+            reached-last = refl;
             count = refl;
             exactly = refl;
           };
@@ -53,6 +55,8 @@ removal-runs =
             one-rate =
                 next (λ _. refl)
                 (next (λ _. refl) (next (λ _. refl) (next (λ _. refl) (next (λ _. refl) (next (λ _. refl) (next (λ _. refl) (next (λ _. refl) done)))))));
+            reached-first = refl;
+            reached-last = refl;
             count = refl;
             exactly = refl;
           };

@@ -2,6 +2,7 @@
 -- five on which a removal with a slip would let another number pass. bin/must-break puts such slips into the definitions and sees these runs fail. The proofs are in proofs/RemovalRuns.antt.
 -- Assumes nothing.
 use mathlib.Core.Path.{_≡_}
+use mathlib.Core.Bool.{true}
 use mathlib.Core.List.{List, [], _∷_, _++_}
 use Prim.Native.Nat.{ℕ, _+_, _-_, _*_, _/_}
 use Rattle.slices.specs.Bytes.{bytes}
@@ -34,7 +35,7 @@ sends t = inspects (own t)
 abbrev pub frees : Act
 frees = asks (removes (bytes "m/x"))
 
--- rate 2: a burst of two messages at 0, as many removals as are asked for with a burst behind each, and messages at 500000 and 1000000
+-- rate 2: a burst of two messages at 0, one removal or two with a burst behind each, and messages at 500000 and 1000000
 abbrev pub burst : List Act
 burst = sends 0 ∷ sends 0 ∷ []
 
@@ -52,6 +53,8 @@ pub record MetWith (K : ℕ) (run : List Act) : Type 0 where
   pub prepared : Prepared (hub 2)
   pub in-order : InOrder (messages run)
   pub one-rate : OneRate (matcherOf (hub 2)) (hub 2) (idOf (bytes "m/x")) 2 (messages run)
+  pub reached-first : reaches (matcherOf (hub 2)) (hub 2) (idOf (bytes "m/x")) (own 0) ≡ true
+  pub reached-last : reaches (matcherOf (hub 2)) (hub 2) (idOf (bytes "m/x")) (own 1000000) ≡ true
   pub count : removed 2 run ≡ K
   pub exactly : passing 2 run ≡ (K + 1) * 2 + 2 * (1000000 - 0) / 1000000
 
