@@ -67,8 +67,12 @@ isRemoval (storms threshold window) = false
 abbrev pub hasRemoved : Candidate → MqttMonitor → Other → Bool
 hasRemoved h m o = isRemoval o && eqb (numberOf (h .ask m o .outcome)) 0
 
+-- how many of the other calls of a run are such, each on its state
+unfoldable pub othersIn : Candidate → (MqttMonitor → Other → Bool) → MqttMonitor → List Act → ℕ
+othersIn h such m [] = 0
+othersIn h such m (inspects c ∷ acts) = othersIn h such (h .inspect m c .monitor) acts
+othersIn h such m (asks o ∷ acts) = cond (such m o) 1 0 + othersIn h such (h .ask m o .monitor) acts
+
 -- how many buckets are removed in a run
-unfoldable pub removals : Candidate → MqttMonitor → List Act → ℕ
-removals h m [] = 0
-removals h m (inspects c ∷ acts) = removals h (h .inspect m c .monitor) acts
-removals h m (asks o ∷ acts) = cond (hasRemoved h m o) 1 0 + removals h (h .ask m o .monitor) acts
+abbrev pub removals : Candidate → MqttMonitor → List Act → ℕ
+removals h = othersIn h (hasRemoved h)

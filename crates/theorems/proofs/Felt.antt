@@ -20,7 +20,7 @@ use Rattle.tables.specs.declared.identity.Id.{Id}
 use Rattle.tables.specs.declared.buckets.RateBucket.{RateBucket}
 use Rattle.tables.proofs.buckets.BucketLaws.{one}
 use Rattle.tables.proofs.identity.IdentityLaws.{OfTopic}
-use Rattle.monitor.specs.Acts.{Act, inspects, asks, Candidate, called, ours, afterAct, afterActs, messages}
+use Rattle.monitor.specs.Acts.{Other, Act, inspects, asks, Candidate, called, ours, afterAct, afterActs, messages, othersIn}
 use Rattle.monitor.specs.Chosen.{Keeps}
 use Rattle.monitor.specs.Prepared.{Prepared}
 use Rattle.monitor.specs.Runs.{Call, Monitor, answer}
@@ -96,7 +96,7 @@ module _ (matcher : Matcher) (f : Monitor) {m₀ : MqttMonitor} (agrees : (m : M
   run : {x : Id} {R : ℕ} {m : MqttMonitor} → Like m₀ m → (acts : List Act) {s e u B : ℕ} → Timed s (messages acts) e → OneRate matcher m₀ x R (messages acts)
       → Inv x R (m .«rate_buckets») s u B
       → Inv x R (afterActs (ours f) m acts .«rate_buckets») e (u + 1000000 * passedIn (ours f) (reaches matcher m₀ x) m acts) (B + 1000000 * R * felt (ours f) x m acts)
-  unfolding afterActs messages passedIn felt
+  unfolding afterActs messages passedIn othersIn
   run {R = R} k [] {u = u} {B} h r v = same-account u (u + 1000000 * 0) B (B + 1000000 * R * 0) (omega arith) (omega arith) (quiet h v)
   run {x} {R} {m} k (inspects c ∷ acts) {u = u} {B} h (next q r) v =
       let n = passedIn (ours f) (reaches matcher m₀ x) (f m c .monitor) acts in
@@ -132,18 +132,18 @@ module _ (h : Candidate) where
   acts-two m [] post = refl
   acts-two m (a ∷ pre) post = acts-two (afterAct h m a) pre post
 
-  -- an inspection at the end is no removal
-  felt-last : (x : Id) (m : MqttMonitor) (acts : List Act) (z : Call) → felt h x m (acts ++ inspects z ∷ []) ≡ felt h x m acts
-  unfolding felt
-  felt-last x m [] z = refl
-  felt-last x m (inspects c ∷ acts) z = felt-last x (h .inspect m c .monitor) acts z
-  felt-last x m (asks o ∷ acts) z = ap (λ (n : ℕ). one (isFelt h x m o) + n) (felt-last x (h .ask m o .monitor) acts z)
+  -- an inspection at the end is no other call
+  others-last : (such : MqttMonitor → Other → Bool) (m : MqttMonitor) (acts : List Act) (z : Call) → othersIn h such m (acts ++ inspects z ∷ []) ≡ othersIn h such m acts
+  unfolding othersIn
+  others-last such m [] z = refl
+  others-last such m (inspects c ∷ acts) z = others-last such (h .inspect m c .monitor) acts z
+  others-last such m (asks o ∷ acts) z = ap (λ (n : ℕ). one (such m o) + n) (others-last such (h .ask m o .monitor) acts z)
 
   -- nor is one at the beginning
-  felt-between : (x : Id) (m : MqttMonitor) (before between : List Act) (a z : Call)
-      → felt h x (afterActs h m before) (inspects a ∷ (between ++ inspects z ∷ [])) ≡ felt h x (afterActs h m (before ++ inspects a ∷ [])) between
-  unfolding felt afterActs
-  felt-between x m before between a z = rw (acts-two m before (inspects a ∷ [])) (felt-last x (h .inspect (afterActs h m before) a .monitor) between z)
+  others-between : (such : MqttMonitor → Other → Bool) (m : MqttMonitor) (before between : List Act) (a z : Call)
+      → othersIn h such (afterActs h m before) (inspects a ∷ (between ++ inspects z ∷ [])) ≡ othersIn h such (afterActs h m (before ++ inspects a ∷ [])) between
+  unfolding othersIn afterActs
+  others-between such m before between a z = rw (acts-two m before (inspects a ∷ [])) (others-last such (h .inspect (afterActs h m before) a .monitor) between z)
 
 pub bound : (matcher : Matcher) (f : Monitor) (m : MqttMonitor) → Prepared m → ((n : MqttMonitor) → Keeps m n → (c : Call) → f n c ≡ answer matcher n c)
     → UpperFelt matcher (ours f) m
@@ -160,4 +160,4 @@ bound matcher f m p agrees x R before between a z o r ra rz =
     let le : time a ≤ time z = timed-le (messages between) (until z (time a) (messages between) [] g) in
     -- in millionths; rounded down these are messages
     let paid = bounded (run matcher f agrees (on-all matcher f agrees k before) (inspects a ∷ rest) (omega arith, t) (rate-rest (messages before) q) there) in
-    rw (← felt-between (ours f) x m before between a z) (omega (arith, paid, ap (λ (d : ℕ). R * d) (sub-add-cancel le)))
+    rw (← others-between (ours f) (isFelt (ours f) x) m before between a z) (omega (arith, paid, ap (λ (d : ℕ). R * d) (sub-add-cancel le)))

@@ -13,7 +13,7 @@ use Rattle.tables.specs.Buckets.{refilled, spend, isExpired, holdsBucket, newco
 use Rattle.tables.specs.Identity.{prefixOf, idOf, isOf, isRemoved}
 use Rattle.tables.specs.Rules.{qosOk, ruleFine, equalRule, firstRule, covered, shadowedAfter, rulePlan}
 use Rattle.tables.specs.Scan.{find, leastOf}
-use Rattle.monitor.specs.Acts.{afterActs, messages, removals}
+use Rattle.monitor.specs.Acts.{afterActs, messages, othersIn}
 use Rattle.monitor.specs.Alerts.{severityOf, hashOf, kindsOf, raise, raiseAll}
 use Rattle.monitor.specs.Calls.{fresh, addRule, removeBucket}
 use Rattle.monitor.specs.Gate.{rulingOf, gateAfter, gateOf}
@@ -24,7 +24,6 @@ use Rattle.theorems.specs.RemovalRuns.{once, twice, RemovalRuns}
 use Rattle.theorems.specs.Removals.{passedIn}
 use Rattle.theorems.specs.Run.{single, later, done, next, firstRate, rateOf, reaches}
 use Rattle.theorems.specs.Slips.{own}
-use Rattle.theorems.specs.Spared.{felt}
 use Rattle.theorems.specs.Tight.{hub, publish, crowd}
 use Rattle.theorems.proofs.Tight.{hub-prepared}
 
@@ -32,7 +31,7 @@ pub removal-runs : RemovalRuns
 unfolding matchBytes fromSlash takesNone takesEnd firstLevel restLevels same has wellPlaced countOf patternRefusal isUtf8 taken begun fnv1a djb2 suffixHash prefixOf idOf
     isOf isRemoved find leastOf refilled spend isExpired holdsBucket newcomer decide removedBucket qosOk ruleFine equalRule firstRule covered shadowedAfter severityOf hashOf
     kindsOf raise raiseAll fresh rulePlan addRule removeBucket rulingOf gateAfter gateOf applied inspectRefusal inspectWith seenOf spentOf fedOf denialOf planFrom
-    planOf every wellFormed afterActs messages removals felt passedIn firstRate rateOf reaches hub publish crowd once twice
+    planOf every wellFormed afterActs messages othersIn passedIn firstRate rateOf reaches hub publish crowd once twice
 removal-runs =
     let at : 0 ≤ 0 = omega arith in
     let half : 0 ≤ 500000 = omega arith in

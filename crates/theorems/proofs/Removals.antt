@@ -10,7 +10,7 @@ use lib.Dec.{eqb}
 use Rattle.laws.proofs.Cases.{by}
 use Rattle.tables.specs.declared.identity.Id.{Id}
 use Rattle.tables.proofs.buckets.BucketLaws.{one}
-use Rattle.monitor.specs.Acts.{Act, inspects, asks, Candidate, called, ours, afterActs, isRemoval, hasRemoved, removals}
+use Rattle.monitor.specs.Acts.{Act, inspects, asks, Candidate, called, ours, afterActs, isRemoval, hasRemoved, othersIn, removals}
 use Rattle.monitor.specs.Prepared.{Prepared}
 use Rattle.monitor.specs.Runs.{Monitor, answer, shipped}
 use Rattle.monitor.specs.State.{matcherOf, numberOf}
@@ -30,7 +30,7 @@ one-of true false = omega arith
 one-of false b = omega arith
 
 felt-le : (h : Candidate) (x : Id) (m : MqttMonitor) (acts : List Act) → felt h x m acts ≤ removals h m acts
-unfolding felt removals
+unfolding othersIn
 felt-le h x m [] = omega arith
 felt-le h x m (inspects c ∷ acts) = felt-le h x (h .inspect m c .monitor) acts
 felt-le h x m (asks o ∷ acts) =
@@ -63,7 +63,7 @@ removed-shipped = gives-removed (ours shipped) felt-shipped
 
 -- a run without the calls that fail
 pub failed-free : (f : Monitor) (m : MqttMonitor) (acts : List Act) → FailedFree (ours f) m acts
-unfolding withoutFailed afterActs passedIn removals
+unfolding withoutFailed afterActs passedIn othersIn
 failed-free f m [] = record { left = refl; passed = λ reach. refl; removed = refl }
 failed-free f m (inspects c ∷ acts) =
     let r = failed-free f (f m c .monitor) acts in

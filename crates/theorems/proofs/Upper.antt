@@ -7,7 +7,7 @@ use Prim.Native.Nat.{ℕ, _+_, _-_, _*_, _/_, _≤_}
 use native.Mathlib.Omega.{arith}
 use Rattle.tables.specs.declared.identity.Id.{Id}
 use Rattle.tables.proofs.buckets.BucketLaws.{one}
-use Rattle.monitor.specs.Acts.{Act, inspects, Candidate, ours, inspections, afterActs, messages, removals}
+use Rattle.monitor.specs.Acts.{Act, inspects, Candidate, ours, inspections, afterActs, messages, othersIn, removals}
 use Rattle.monitor.specs.Runs.{Call, answer, afterBy}
 use Rattle.monitor.specs.State.{matcherOf}
 use Rattle.monitor.specs.declared.state.MqttMonitor.{MqttMonitor}
@@ -36,7 +36,7 @@ module _ (h : Candidate) where
   after-inspections m (c ∷ cs) = after-inspections (h .inspect m c .monitor) cs
 
   no-removal : (m : MqttMonitor) (cs : List Call) → removals h m (inspections cs) ≡ 0
-  unfolding removals
+  unfolding othersIn
   no-removal m [] = refl
   no-removal m (c ∷ cs) = no-removal (h .inspect m c .monitor) cs
 

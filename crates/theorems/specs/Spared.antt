@@ -3,14 +3,14 @@
 -- The proofs are in proofs/Felt.antt and proofs/Removals.antt.
 -- Assumes nothing.
 use mathlib.Core.Path.{_≡_}
-use mathlib.Core.Bool.{Bool, true, cond, not, _&&_}
+use mathlib.Core.Bool.{Bool, true, not, _&&_}
 use mathlib.Core.List.{List, [], _∷_, _++_}
 use Prim.Native.Nat.{ℕ, _+_, _-_, _*_, _/_, _≤_}
 use lib.Dec.{ltb}
 use Rattle.tables.specs.Buckets.{holdsBucket}
 use Rattle.tables.specs.Scan.{find}
 use Rattle.tables.specs.declared.identity.Id.{Id}
-use Rattle.monitor.specs.Acts.{Other, Act, inspects, asks, Candidate, ours, afterActs, messages, hasRemoved}
+use Rattle.monitor.specs.Acts.{Other, Act, inspects, Candidate, ours, afterActs, messages, hasRemoved, othersIn}
 use Rattle.monitor.specs.Prepared.{Prepared}
 use Rattle.monitor.specs.Runs.{Call, answer, shipped}
 use Rattle.monitor.specs.State.{matcherOf}
@@ -27,10 +27,8 @@ abbrev pub isFelt : Candidate → Id → MqttMonitor → Other → Bool
 isFelt h x m o = hasRemoved h m o && not (hasBucket x (h .ask m o .monitor))
 
 -- how many such calls a run has
-unfoldable pub felt : Candidate → Id → MqttMonitor → List Act → ℕ
-felt h x m [] = 0
-felt h x m (inspects c ∷ acts) = felt h x (h .inspect m c .monitor) acts
-felt h x m (asks o ∷ acts) = cond (isFelt h x m o) 1 0 + felt h x (h .ask m o .monitor) acts
+abbrev pub felt : Candidate → Id → MqttMonitor → List Act → ℕ
+felt h x = othersIn h (isFelt h x)
 
 -- the upper half as in Removals.antt, with these alone counted
 abbrev pub UpperFelt : Matcher → Candidate → MqttMonitor → Type 0
