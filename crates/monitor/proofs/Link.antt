@@ -1,5 +1,5 @@
 -- What an inspection is to the limiter, under any matcher: refused, it changes nothing; where the gate hands out no rate, the buckets stay; where it does, the decision's
--- bucket is stored and the message is allowed exactly where the limiter lets it pass. Rules and the default stay in every case. Assumes nothing.
+-- bucket is stored and the message is allowed exactly where the limiter lets it pass. Rules, the default and the matcher stay in every case. Assumes nothing.
 use mathlib.Core.Bool.{Bool, true, false, cond, not, _&&_, false≢true}
 use mathlib.Core.List.{List}
 use mathlib.Core.Path.{_≡_, refl, sym}
@@ -81,7 +81,7 @@ stored-32 T d l =
 abbrev pub decisionOn : (List ℕ → List ℕ → Bool) → MqttMonitor → MqttMessage → List ℕ → RateDecision
 decisionOn matcher m msg topic = decide (m .«rate_buckets») (idOf topic) (gateIn matcher m msg topic .rate) (msg .«timestamp_us»)
 
--- two states of the same rules
+-- two states of the same rules, default and matcher
 pub record SameRules (m n : MqttMonitor) : Type 0 where
   pub rules-same : n .rules ≡ m .rules
   pub count-same : n .«rule_count» ≡ m .«rule_count»

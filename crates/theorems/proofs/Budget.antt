@@ -88,35 +88,27 @@ module _ (x : Id) (T : List RateBucket) (k : ℕ) (c : RateBucket) (q : k < leng
 
 -- a place made free
 module _ (x : Id) (T : List RateBucket) (k : ℕ) (q : k < length T) where
-  none-there : ((j : ℕ) → (j ≡ k → ⊥) → holdsBucket x (bucketAt T j) ≡ false) → Absent x (set T k emptyBucket)
-  none-there = still-absent x T k emptyBucket q (no-holder x emptyBucket refl)
-
   -- for nothing, where the identity still has its bucket
   pub spared : {R now u B : ℕ} → find (holdsBucket x) (set T k emptyBucket) < length (set T k emptyBucket) → Inv x R T now u B → Inv x R (set T k emptyBucket) now u B
   spared l v = keeps-it v
     where
-      there : holdsBucket x (bucketAt (set T k emptyBucket) (find (holdsBucket x) (set T k emptyBucket))) ≡ true
-      there = find-lt (holdsBucket x) (set T k emptyBucket) noBucket l
+      none-there : ((j : ℕ) → (j ≡ k → ⊥) → holdsBucket x (bucketAt T j) ≡ false) → Absent x (set T k emptyBucket)
+      none-there = still-absent x T k emptyBucket q (no-holder x emptyBucket refl)
+
+      not-gone : {P : Type 0} → Absent x (set T k emptyBucket) → P
+      not-gone a = clash (find-lt (holdsBucket x) (set T k emptyBucket) noBucket l) (a .none (find (holdsBucket x) (set T k emptyBucket)))
 
       keeps-it : {R now u B : ℕ} → Inv x R T now u B → Inv x R (set T k emptyBucket) now u B
       keeps-it (held i b l e m only g p) =
           by (eqb k i)
-          (λ z. let r : k ≡ i = eqb-true k i z in clash there (none-there (λ j ne. fails _ (λ c. ne (only j c ∙ sym r))) .none (find (holdsBucket x) (set T k emptyBucket))))
+          (λ z. let r : k ≡ i = eqb-true k i z in not-gone (none-there (λ j ne. fails _ (λ c. ne (only j c ∙ sym r)))))
           (λ z. beside x T k emptyBucket q i b l e m only g (omega arith) (no-holder x emptyBucket refl) (eqb-false k i z) p)
-      keeps-it (gone F a f live low p) = clash there (none-there (λ j _. a .none j) .none (find (holdsBucket x) (set T k emptyBucket)))
-      keeps-it (spare a p) = spare (none-there (λ j _. a .none j)) p
+      keeps-it (gone F a f live low p) = not-gone (none-there (λ j _. a .none j))
+      keeps-it (spare a p) = not-gone (none-there (λ j _. a .none j))
 
-  paid : {R now u B : ℕ} → u ≤ B + R * now → Inv x R T now u B → Inv x R (set T k emptyBucket) now u (B + 1000000 * R)
-  paid w (held i b l e m only g p) =
-      by (eqb k i)
-      (λ z. let r : k ≡ i = eqb-true k i z in spare (none-there (λ j ne. fails _ (λ c. ne (only j c ∙ sym r)))) (omega arith))
-      (λ z. beside x T k emptyBucket q i b l e m only g (omega arith) (no-holder x emptyBucket refl) (eqb-false k i z) (inr (omega arith)))
-  paid w (gone F a f live low p) = spare (none-there (λ j _. a .none j)) (omega arith)
-  paid w (spare a p) = spare (none-there (λ j _. a .none j)) (omega arith)
-
-  -- at the price of one whole bucket: it may have been the identity's own, or any other that was in its way
-  pub cleared : {R now u B : ℕ} → Inv x R T now u B → Inv x R (set T k emptyBucket) now u (B + 1000000 * R)
-  cleared v = paid (bounded v) v
+-- a table without the identity's bucket, whatever became of it: for one whole bucket more
+pub cleared : {x : Id} {R : ℕ} {T T′ : List RateBucket} {now u B : ℕ} → Absent x T′ → Inv x R T now u B → Inv x R T′ now u (B + 1000000 * R)
+cleared a v = spare a (omega (arith, bounded v))
 
 -- an identity that comes back after it was replaced: an expired place is more than 300 seconds older than now
 back : (R t F : ℕ) (b : RateBucket) (ok : Bool) (u B : ℕ) → u ≤ B + R * F → F ≤ b .«last_refill_us» → F ≤ t → (ok ≡ true → isExpired b t ≡ true)

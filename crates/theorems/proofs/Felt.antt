@@ -4,8 +4,8 @@
 -- rate x D. Assumes nothing.
 use mathlib.Core.Bool.{Bool, true, false, not, _&&_, false≢true}
 use mathlib.Core.List.{List, [], _∷_, _++_, append-assoc}
-use mathlib.Core.Path.{_≡_, refl, ap}
-use Prim.Native.Nat.{ℕ, _+_, _-_, _*_, _<_, _≤_}
+use mathlib.Core.Path.{_≡_, refl, ap, _∙_}
+use Prim.Native.Nat.{ℕ, _+_, _-_, _*_, _≤_}
 use native.Mathlib.Nat.{add-zero, sub-add-cancel}
 use native.Mathlib.Omega.{arith}
 use borrow.Author.Tests.{lt-ltb, ltb-true}
@@ -19,6 +19,7 @@ use Rattle.tables.specs.Scan.{find}
 use Rattle.tables.specs.declared.identity.Id.{Id}
 use Rattle.tables.specs.declared.buckets.RateBucket.{RateBucket}
 use Rattle.tables.proofs.buckets.BucketLaws.{one}
+use Rattle.tables.proofs.buckets.StepLaws.{none-holds}
 use Rattle.tables.proofs.identity.IdentityLaws.{OfTopic}
 use Rattle.monitor.specs.Acts.{Other, Act, inspects, asks, Candidate, called, ours, afterAct, afterActs, messages, othersIn}
 use Rattle.monitor.specs.Chosen.{Keeps}
@@ -64,11 +65,10 @@ frees-paid : {x : Id} {R : ℕ} {T T′ : List RateBucket} {removed : Bool} {now
 frees-paid {R = R} {u = u} {B} l kept v = same-account u u B (B + 1000000 * R * 0) refl (omega arith) v
 frees-paid {x} {R} {T} {u = u} {B} l (freed k h) v =
     let T′ : List RateBucket = set T k emptyBucket in
+    let l′ : length T′ ≡ 32 = length-set T k emptyBucket ∙ l in
     by (ltb (find (holdsBucket x) T′) 32)
-    (λ e.
-    let q : find (holdsBucket x) T′ < length T′ = rw (length-set T k emptyBucket, l) (ltb-true (find (holdsBucket x) T′) 32 e) in
-    rw e (same-account u u B (B + 1000000 * R * 0) refl (omega arith) (spared x T k (omega arith) q v)))
-    (λ e. rw e (same-account u u (B + 1000000 * R) (B + 1000000 * R * 1) refl (omega arith) (cleared x T k (omega arith) v)))
+    (λ e. rw e (same-account u u B (B + 1000000 * R * 0) refl (omega arith) (spared x T k (omega arith) (rw l′ (ltb-true (find (holdsBucket x) T′) 32 e)) v)))
+    (λ e. rw e (same-account u u (B + 1000000 * R) (B + 1000000 * R * 1) refl (omega arith) (cleared (none-holds T′ x (rw l′ e)) v)))
 
 -- runs that begin in `m₀`, of whatever inspects as under a matcher for as long as the choice of `m₀` is kept
 module _ (matcher : Matcher) (f : Monitor) {m₀ : MqttMonitor} (agrees : (m : MqttMonitor) → Keeps m₀ m → (c : Call) → f m c ≡ answer matcher m c) where

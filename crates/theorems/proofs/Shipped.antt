@@ -19,7 +19,7 @@ use Rattle.theorems.proofs.Removals.{removed-shipped}
 use Rattle.theorems.proofs.Upper.{gives-upper}
 
 -- the state after a run chose what the first did
-pub still : (p : MqttMonitor) (cs : List Call) → Keeps p (after (matcherOf p) p cs)
+still : (p : MqttMonitor) (cs : List Call) → Keeps p (after (matcherOf p) p cs)
 still p cs = rw (one-matcher p cs .left) at (one-matcher p cs .choice)
 
 -- what is counted of a run is what specs/Run.antt counts

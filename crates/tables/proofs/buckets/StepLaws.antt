@@ -64,7 +64,8 @@ past-end : (T : List RateBucket) (id : Id) (j : ℕ) → length T ≤ j → hold
 unfolding holdsBucket
 past-end T id j h = rw (List·getD-eq-default T noBucket {n = j} h)
 
-none-holds : (T : List RateBucket) (id : Id) → ltb (find (holdsBucket id) T) (length T) ≡ false → Absent id T
+-- where no bucket is found, no one is
+pub none-holds : (T : List RateBucket) (id : Id) → ltb (find (holdsBucket id) T) (length T) ≡ false → Absent id T
 none-holds T id e =
     record {
       none =
