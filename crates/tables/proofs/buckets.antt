@@ -1,5 +1,5 @@
 pub mod BucketLaws
 mod DecideLaws
-mod PlaceLaws
+pub mod PlaceLaws
 mod RefillLaws
 pub mod StepLaws

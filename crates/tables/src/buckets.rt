@@ -17,13 +17,13 @@ const LAST: usize = BUCKETS - 1;
 const PARTS: u64 = 1_000_000;
 
 // The largest remainder: with one millionth more it is a token.
-const REMAINDER_MAX: u32 = 999_999;
+pub(crate) const REMAINDER_MAX: u32 = 999_999;
 
 // How long it takes to fill any bucket, in microseconds: its capacity is earned in a second.
 const FILLS: u64 = 1_000_000;
 
 // How long a bucket may be idle before a newcomer takes its place with its full rate, in microseconds.
-const IDLE_MAX: u64 = 300_000_000;
+pub(crate) const IDLE_MAX: u64 = 300_000_000;
 
 // A bucket. `remainder` has the millionths of a token that were earned and are no whole one yet; `last_refill_us`, named as in 000, is the time of the last message,
 // at the latest time so far, since each message refills.
@@ -186,7 +186,7 @@ fn spent_at(at: usize, held: RateBucket, now_us: u64) -> RateDecision
 }
 
 // The first free place; 32 where there is none.
-fn find_free(buckets: [RateBucket; BUCKETS]) -> usize
+pub(crate) fn find_free(buckets: [RateBucket; BUCKETS]) -> usize
     ensures { λ r. ⌜ r ≡ find (λ b. not (b .active)) buckets ⌝ }
 {
     let mut i = 0;
@@ -200,7 +200,7 @@ fn find_free(buckets: [RateBucket; BUCKETS]) -> usize
 }
 
 // The place of the least time. It counts down, so that the first place wins a tie.
-fn find_oldest(buckets: [RateBucket; BUCKETS]) -> usize
+pub(crate) fn find_oldest(buckets: [RateBucket; BUCKETS]) -> usize
     ensures { λ r. ⌜ r ≡ leastPlace (leastOf (λ b. b .«last_refill_us») any buckets) ⌝ }
 {
     let mut at: usize = LAST;

@@ -6,7 +6,7 @@ ghost use Prim.Native.Nat.{min};
 ghost use lib.Dec.{eqb};
 ghost use lib.ListN.{take};
 ghost use Rattle.slices.specs.Bytes.{same};
-ghost use Rattle.tables.specs.Identity.{prefixOf, idOf, compared, emptyId};
+ghost use Rattle.tables.specs.Identity.{prefixOf, idOf, compared, isOf, emptyId};
 
 // How many of a topic's first bytes an identity keeps.
 pub const PREFIX: usize = 32;
@@ -105,6 +105,16 @@ pub fn first_bytes_agree(id: Id, held: Id) -> bool
     let a = held.prefix;
     let b = id.prefix;
     same_prefix(a, b, least(id.len as usize, held.prefix_len as usize))
+}
+
+// Whether a held identity is that of a topic, where no search is to be quick.
+pub fn is_of(id: Id, held: Id) -> bool
+    ensures { λ r. ⌜ r ≡ isOf id held ⌝ }
+{
+    if !all_numbers_agree(id, true, held.len, held.hash, held.hash2, held.suffix_hash) {
+        return false;
+    }
+    first_bytes_agree(id, held)
 }
 
 // What is left to ask for a removal: all 32 bytes.

@@ -4,5 +4,6 @@
 pub mod buckets;
 pub mod identity;
 pub mod rules;
+pub mod standing;
 pub mod trackers;
 pub mod windows;

@@ -74,7 +74,7 @@ none-holds T id e =
           (λ l. past-end T id j (ltb-false j (length T) l));
     }
 
-grants-spent : (ok : Bool) → grants (cond ok Allowed Limited) ≡ ok
+pub grants-spent : (ok : Bool) → grants (cond ok Allowed Limited) ≡ ok
 grants-spent true = refl
 grants-spent false = refl
 

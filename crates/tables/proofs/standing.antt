@@ -1,0 +1,2 @@
+pub mod ExactLaws
+pub mod StandingLaws
