@@ -11,6 +11,7 @@ pub mod Ranged
 pub mod Reached
 pub mod Runs
 pub mod Sound
+pub mod Standing
 pub mod State
 pub mod Told
 pub mod Unbroken

@@ -8,4 +8,5 @@ pub mod inspection;
 pub mod message;
 pub mod plan;
 pub mod rule_calls;
+pub mod standing;
 pub mod state;

@@ -98,7 +98,7 @@ fn hash_if(wanted: bool, payload: &[u8]) -> [u8; 32]
 }
 
 // The kind by which the limiter denies, 0 for none.
-fn limiter_kind(result: RateCheckResult) -> u32
+pub(crate) fn limiter_kind(result: RateCheckResult) -> u32
     ensures { λ r. ⌜ r ≡ limiterKind result ⌝ }
 {
     match result {
