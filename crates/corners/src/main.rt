@@ -1,8 +1,9 @@
-// The published vectors, run: FNV-1a's own test strings, the examples of UTF-8 in its standards and the worked examples of MQTT 3.1.1 section 4.7. Each line of
+// The published vectors, run: FNV-1a's own test strings, the examples of UTF-8 in its standards, texts as a person reads them and the worked examples of MQTT 3.1.1 section 4.7. Each line of
 // standard input asks one thing of quoted text and comes back with its answer in front:
 //     hash "TEXT"               FNV-1a of the text, 32 bits
 //     bytes "HEX"               the same of bytes that are not all text
 //     utf8 "HEX"                whether such bytes are UTF-8
+//     shown "HEX"               whether such bytes can be shown as they are, and how they are shown
 //     valid "FILTER"            whether the filter's wildcards are well placed
 //     match "FILTER" "NAME"     whether the filter takes the name, by the port and by the standard matcher (`out`: its number 9), and where they differ
 // Any other line is a heading. The answers are compared with the file `stdout`; what is proved here is that the program is safe and ends.
@@ -16,6 +17,8 @@ use topics::matching::match_number;
 use topics::matching::standard_matches;
 use topics::matching::topic_matches;
 use topics::patterns::validate_mqtt_wildcard;
+use topics::shown::is_readable;
+use topics::shown::shown_byte;
 use topics::utf8::is_utf8;
 ghost use Prim.Native.Nat.{_≤_};
 ghost use lib.ListN.{length};
@@ -60,6 +63,9 @@ fn answer(line: &[u8]) {
         if word == b'u' {
             answer_bytes(line, true);
         }
+        if word == b's' {
+            answer_shown(line);
+        }
         if word == b'v' {
             answer_valid(line);
         }
@@ -92,6 +98,31 @@ fn answer_bytes(line: &[u8], test: bool) {
         return say_test(is_utf8(upto(&bytes, (to - from) / 2)));
     }
     say_hash(upto(&bytes, (to - from) / 2));
+}
+
+// Whether bytes in hex can be shown as they are, and how they are shown, where they are such and at most 512.
+fn answer_shown(line: &[u8]) {
+    let digits = quoted(line, 0);
+    let from = digits.from;
+    let to = digits.to;
+    let mut bytes = [0u8; 512];
+    if value::hex(&line[from..to], &mut bytes) != 0 {
+        return say(b"refused   ");
+    }
+    let whole = is_readable(upto(&bytes, (to - from) / 2));
+    say_test(whole);
+    say_shown(upto(&bytes, (to - from) / 2), whole);
+    say(b"  ");
+}
+
+// A text as it is shown.
+fn say_shown(bytes: &[u8], whole: bool) {
+    let mut i = 0;
+    while i < bytes.len() {
+        let b = shown_byte(whole, bytes[i]);
+        say(&[b]);
+        i += 1;
+    }
 }
 
 // The eight digits of a hash.

@@ -1,13 +1,13 @@
 // Writers into a lent buffer. Each writes its text from `at` on and hands back the place after it.
 // What does not fit is cut off at the buffer's end, so every writer takes every input, and one writer follows another without a test between them.
-ghost use Prim.Native.Nat.{_<_};
+ghost use Prim.Native.Nat.{_+_, _%_, _<_};
 ghost use mathlib.Core.Path.{_≡_};
 ghost use mathlib.Core.List.{[], _∷_};
 ghost use Rattle.lines.specs.Wrote.{Wrote};
 ghost use Rattle.lines.specs.Decimal.{decimal};
 ghost use Rattle.lines.specs.Hex.{hexDigit, hexText};
 ghost use Rattle.lines.specs.Word.{wordText};
-ghost use Rattle.lines.specs.Line.{flagText, numberLine, hexLine, flagLine, wordLine};
+ghost use Rattle.lines.specs.Line.{flagText, numberLine, hexLine, flagLine, wordLine, sixDigits, secondsLine};
 use crate::words::word_part;
 
 // One byte.
@@ -140,5 +140,35 @@ pub fn put_word_line(out: &mut [u8], at: usize, key: &[u8], words: &[u8], k: usi
 {
     let value = put_bytes(out, at, key);
     let end = put_word(out, value, words, k);
+    put_end(out, end)
+}
+
+// The last digit of a number.
+fn put_last_digit(out: &mut [u8], at: usize, n: u64) -> usize
+    ensures { λ r. ⌜ Wrote (now (out .entry)) (now (out .exit)) at ((48 + n % 10) ∷ []) r ⌝ }
+{
+    put_byte(out, at, 48 + (n % 10) as u8)
+}
+
+// The six digits of a number below a million.
+fn put_six_digits(out: &mut [u8], at: usize, n: u64) -> usize
+    ensures { λ r. ⌜ Wrote (now (out .entry)) (now (out .exit)) at (sixDigits n) r ⌝ }
+{
+    let second = put_last_digit(out, at, n / 100_000);
+    let third = put_last_digit(out, second, n / 10_000);
+    let fourth = put_last_digit(out, third, n / 1000);
+    let fifth = put_last_digit(out, fourth, n / 100);
+    let sixth = put_last_digit(out, fifth, n / 10);
+    put_last_digit(out, sixth, n)
+}
+
+// A line with a time in microseconds, as seconds with six digits after the point.
+pub fn put_seconds_line(out: &mut [u8], at: usize, key: &[u8], us: u64) -> usize
+    ensures { λ r. ⌜ Wrote (now (out .entry)) (now (out .exit)) at (secondsLine (now (key .entry)) us) r ⌝ }
+{
+    let value = put_bytes(out, at, key);
+    let point = put_decimal(out, value, us / 1_000_000);
+    let parts = put_byte(out, point, b'.');
+    let end = put_six_digits(out, parts, us % 1_000_000);
     put_end(out, end)
 }

@@ -1,6 +1,7 @@
 // The writers. What is asked, with its arguments in order:
 //     put_byte SIZE AT [BYTE] · put_bytes SIZE AT [BYTES] · put_decimal SIZE AT NUMBER · put_hex SIZE AT [BYTES] · put_flag SIZE AT 0|1 · put_word SIZE AT WORDS PLACE
 //     put_number_line SIZE AT KEY NUMBER · put_hex_line SIZE AT KEY [BYTES] · put_flag_line SIZE AT KEY 0|1 · put_word_line SIZE AT KEY WORDS PLACE
+//     put_seconds_line SIZE AT KEY NUMBER
 // SIZE is that of the buffer, at most 64. It is written out after the write, and a `.` is a byte that stayed; `next` is the place that the writer hands back, and
 // `len` the length that `lengths` says beforehand, where it has a function for it.
 use crate::parts::text;
@@ -65,6 +66,9 @@ fn put_line(name: &[u8], q: &[u8], out: &mut [u8]) -> usize {
             lengths::word_line_len(key, arg(q, 4), place(q, 5)) as u64,
         );
         return put::put_word_line(out, at, key, arg(q, 4), place(q, 5));
+    }
+    if is(name, b"put_seconds_line") {
+        return put::put_seconds_line(out, at, key, number(q, 4));
     }
     put_value(name, q, out)
 }

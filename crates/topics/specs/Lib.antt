@@ -6,4 +6,5 @@ pub mod Meaning
 pub mod Names
 pub mod Patterns
 pub mod Payload
+pub mod Shown
 pub mod Utf8

@@ -5,4 +5,5 @@ pub mod matching;
 pub mod names;
 pub mod patterns;
 pub mod payload;
+pub mod shown;
 pub mod utf8;
