@@ -1,3 +1,3 @@
-mod BufferLaws
+pub mod BufferLaws
 pub mod LoadLaws
 pub mod RunLaws

@@ -1,4 +1,5 @@
 pub mod AsRun
 pub mod Groups
 pub mod Record
+pub mod Seen
 pub mod Trace

@@ -3,3 +3,4 @@
 pub mod groups;
 pub mod record;
 pub mod run;
+pub mod seen;

@@ -58,14 +58,14 @@ pub struct LoadedRules {
 }
 
 // A buffer for a pattern or a topic.
-fn buffer_128() -> [u8; TOPIC_MAX]
+pub(crate) fn buffer_128() -> [u8; TOPIC_MAX]
     ensures { λ r. ⌜ length r ≡ 128 ⌝ }
 {
     [0; TOPIC_MAX]
 }
 
 // A buffer for a payload.
-fn buffer_256() -> [u8; PAYLOAD_MAX]
+pub(crate) fn buffer_256() -> [u8; PAYLOAD_MAX]
     ensures { λ r. ⌜ length r ≡ 256 ⌝ }
 {
     [0; PAYLOAD_MAX]

@@ -73,7 +73,7 @@ module _ (s : List ℕ) where
   more : (at line : ℕ) → left at line ≡ messagesFrom (suc (length s)) s at line
   more at line = ap (λ (k : ℕ). messagesFrom k s at line) (add-one (length s))
 
-  left-turn : (at line : ℕ) → at < length s → messageAt s at .number ≡ 0 → left at line ≡ sentFirst (sentAt at) (left (messageAt s at .next) (line + 7))
+  pub left-turn : (at line : ℕ) → at < length s → messageAt s at .number ≡ 0 → left at line ≡ sentFirst (sentAt at) (left (messageAt s at .next) (line + 7))
   left-turn at line h z =
       let f = message-further s at z in
       more at line ∙ turn (length s) at line h z
@@ -129,7 +129,7 @@ pub record Going (matching : Matching) (s : List ℕ) (write : Bool) (d₀ d : L
   pub number : left s at line .number ≡ messagesOf matching s .number
   pub last : left s at line .line ≡ messagesOf matching s .line
 
-loaded-messages : (matching : Matching) (s : List ℕ) → let l = loaded matching s in l .number ≡ 0 → messagesOf matching s ≡ left s (l .next) (l .line)
+pub loaded-messages : (matching : Matching) (s : List ℕ) → let l = loaded matching s in l .number ≡ 0 → messagesOf matching s ≡ left s (l .next) (l .line)
 unfolding messagesOf
 loaded-messages matching s z = rw (eq-eqb _ _ z)
 
@@ -138,21 +138,21 @@ module _ (matching : Matching) (s : List ℕ) {l : LoadedRules} (port : l ≡ ru
   e : l ≡ rulesOf (loaded matching s)
   e = port ∙ same-rules matching s
 
-  monitor-is : withRules m (l .rules) (l .«rule_count») ≡ loaded matching s .monitor
+  pub monitor-is : withRules m (l .rules) (l .«rule_count») ≡ loaded matching s .monitor
   monitor-is = rw (f, e) (loaded-monitor matching s)
 
   -- it has the matcher that was asked for
-  choice : m .matching ≡ matching
+  pub choice : m .matching ≡ matching
   unfolding fresh
   choice = ap (λ (x : MqttMonitor). x .matching) f
 
-  number-is : loaded matching s .number ≡ l .number
+  pub number-is : loaded matching s .number ≡ l .number
   number-is = ap (λ (x : LoadedRules). x .number) (sym e)
 
-  line-is : loaded matching s .line ≡ l .line
+  pub line-is : loaded matching s .line ≡ l .line
   line-is = ap (λ (x : LoadedRules). x .line) (sym e)
 
-  next-is : loaded matching s .next ≡ l .next
+  pub next-is : loaded matching s .next ≡ l .next
   next-is = ap (λ (x : LoadedRules). x .next) (sym e)
 
   -- the messages are taken from the place after the rules
@@ -182,7 +182,7 @@ module _ (matching : Matching) (s : List ℕ) {l : LoadedRules} (port : l ≡ ru
         let a : loaded matching s .monitor .«total_alerts» ≡ m .«total_alerts» = ap (λ (x : MqttMonitor). x .«total_alerts») (sym monitor-is) in
         rw (number-is, ne-eqb _ _ z, line-is, i, a)
 
-    unloaded-messages : messagesOf matching s ≡ endedBy (l .number) (l .line)
+    pub unloaded-messages : messagesOf matching s ≡ endedBy (l .number) (l .line)
     unfolding messagesOf
     unloaded-messages = rw (number-is, ne-eqb _ _ z, line-is)
 
