@@ -17,5 +17,6 @@ mod SoundMoves
 mod SoundRules
 mod SoundTrackers
 mod SoundWindows
+pub mod StandingExact
 pub mod Total
 pub mod Unbroken

@@ -13,17 +13,17 @@ use lib.Seq.{getD-set-same, getD-set-other}
 use Rattle.laws.proofs.Cases.{by}
 use Rattle.laws.proofs.Tests.{alike}
 use Rattle.tables.specs.Buckets.{withTokens, due, risen, latest, refilled, spend, noBucket, holdsBucket, isExpired, newcomer, decide, made}
-use Rattle.tables.specs.Scan.{find, leastOf, leastPlace, any}
+use Rattle.tables.specs.Scan.{find, leastOf, leastPlace, any, seat}
 use Rattle.tables.specs.Standing.{opens, laterBy, openingOf, openingNew, prospectIn}
 use Rattle.tables.specs.declared.identity.Id.{Id}
 use Rattle.tables.specs.declared.buckets.RateBucket.{RateBucket}
 use Rattle.tables.specs.declared.buckets.RateCheckResult.the-variants.{Allowed, Limited, EvictedAndDenied}
 use Rattle.tables.specs.declared.buckets.Spent.{Spent}
 use Rattle.tables.specs.declared.standing.Opening.the-variants.{Never, From}
-use Rattle.tables.proofs.ScanLaws.{find-lt, find-before, find-none, place-lt, seat-free, seat-least}
+use Rattle.tables.proofs.ScanLaws.{find-lt, find-before, find-none, place-lt, seat-free, seat-least, seat-lt}
 use Rattle.tables.proofs.buckets.BucketLaws.{keeps}
 use Rattle.tables.proofs.buckets.PlaceLaws.{timeOf, isFree, newcomer-put}
-use Rattle.tables.proofs.buckets.StepLaws.{grants, grants-spent, stored, Step, hit, put, step}
+use Rattle.tables.proofs.buckets.StepLaws.{grants, grants-spent, stored, none-holds, Step, hit, put, step}
 use Rattle.tables.proofs.identity.IdentityLaws.{is-of-refl}
 use Rattle.tables.proofs.standing.StandingLaws.{prospect-held}
 
@@ -159,16 +159,29 @@ find-first p l d i h e before =
     (λ m. let g = ltb-true (find p l) i m in absurd (true≢false (sym (find-lt p l d (omega arith)) ∙ before (find p l) g)))
     (λ m. let g = ltb-false (find p l) i m in let f = ltb-false i (find p l) k in omega arith))
 
--- a bucket of an identity stored where none before it is one
-stored-held : (bs : List RateBucket) (id : Id) (i : ℕ) (c : RateBucket) → i < length bs → holdsBucket id c ≡ true → ((j : ℕ) → j < i → holdsBucket id (getD bs j noBucket) ≡ false)
-    → prospectIn (set bs i c) id ≡ record { held = true; opening = openingOf c }
-stored-held bs id i c l h before =
-    let g : getD (set bs i c) i noBucket ≡ c = getD-set-same bs i c noBucket l in
-    let z : i < length (set bs i c) = rw length-set l in
-    prospect-held (set bs i c) id
-    (find-first (holdsBucket id) (set bs i c) noBucket i z (ap (holdsBucket id) g ∙ h)
-    (λ j k. ap (holdsBucket id) (getD-set-other bs i j c noBucket (λ e. omega arith)) ∙ before j k)) z
-    ∙ (rw g)
+-- a bucket of an identity stored where none before it is one is the first of the table
+module _ (bs : List RateBucket) (id : Id) (i : ℕ) (c : RateBucket) (l : i < length bs) (h : holdsBucket id c ≡ true) (before : (j : ℕ) → j < i → holdsBucket id (getD bs j noBucket) ≡ false) where
+  there : getD (set bs i c) i noBucket ≡ c
+  there = getD-set-same bs i c noBucket l
+
+  inside : i < length (set bs i c)
+  inside = rw length-set l
+
+  first-there : i ≡ find (holdsBucket id) (set bs i c)
+  first-there =
+      find-first (holdsBucket id) (set bs i c) noBucket i inside (ap (holdsBucket id) there ∙ h)
+      (λ j k. ap (holdsBucket id) (getD-set-other bs i j c noBucket (λ e. omega arith)) ∙ before j k)
+
+  stored-held : prospectIn (set bs i c) id ≡ record { held = true; opening = openingOf c }
+  stored-held = prospect-held (set bs i c) id first-there inside ∙ (rw there)
+
+  found-there : getD (set bs i c) (find (holdsBucket id) (set bs i c)) noBucket ≡ c
+  found-there = rw (← first-there) there
+
+-- whether an identity is held is whether it is found
+pub held-is : (bs : List RateBucket) (id : Id) → prospectIn bs id .held ≡ ltb (find (holdsBucket id) bs) (length bs)
+unfolding prospectIn
+held-is bs id = by (ltb (find (holdsBucket id) bs) (length bs)) (λ e. rw e) (λ e. rw e)
 
 -- trying does not prolong the wait: a held identity that is denied has the same prospect then
 pub limited-stays : (bs : List RateBucket) (id : Id) (rate t : ℕ) → find (holdsBucket id) bs < length bs → getD bs (find (holdsBucket id) bs) noBucket .remainder ≤ 999999
@@ -199,3 +212,21 @@ newcomer-waits bs id rate t some pos none d = go (step bs id rate t some) d
     go (put i true l a s) d = absurd (true≢false d)
     go (put i false l a s) d =
         stored-held bs id i (made id rate 0 t) l (is-of-refl id) (λ j k. a .none j) ∙ (rw (evicted-waits id rate t pos))
+
+-- the bucket that the limiter stores is the identity's one in the table then
+pub stored-there : (bs : List RateBucket) (id : Id) (rate t : ℕ) → 0 < length bs
+    → getD (stored bs (decide bs id rate t)) (find (holdsBucket id) (stored bs (decide bs id rate t))) noBucket ≡ decide bs id rate t .bucket
+unfolding decide holdsBucket
+stored-there bs id rate t some =
+    by (ltb (find (holdsBucket id) bs) (length bs))
+    (λ e.
+    let l : find (holdsBucket id) bs < length bs = ltb-true _ _ e in
+    let b : RateBucket = getD bs (find (holdsBucket id) bs) noBucket in
+    let k = keeps b t in
+    rw e
+    (found-there bs id (find (holdsBucket id) bs) (spend b t .bucket) l (rw (k .live, k .id) (find-lt (holdsBucket id) bs noBucket l))
+    (find-before (holdsBucket id) bs noBucket)))
+    (λ e.
+    let a = none-holds bs id e in
+    rw (e, newcomer-put bs id rate t some)
+    (found-there bs id (seat isFree timeOf bs) _ (seat-lt isFree timeOf bs noBucket some) (is-of-refl id) (λ j k. a .none j)))
