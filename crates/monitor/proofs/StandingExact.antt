@@ -6,7 +6,7 @@ use mathlib.Core.List.{List}
 use mathlib.Core.Path.{_≡_, refl, sym, ap, _∙_}
 use Prim.Native.Nat.{ℕ, _+_, _/_, _≤_, _<_}
 use native.Mathlib.Omega.{arith}
-use borrow.Author.Tests.{eq-eqb, ne-eqb, le-leb, le-ltb, leb-true, ltb-true, ltb-false}
+use borrow.Author.Tests.{eq-eqb, ne-eqb, le-leb, lt-ltb, le-ltb, leb-true, ltb-true, ltb-false}
 use lib.Dec.{eqb, leb, ltb}
 use lib.ListN.{length, take, getD, length-take}
 use Rattle.laws.proofs.Cases.{by}
@@ -59,6 +59,18 @@ publish-gate matcher m msg topic e =
     (λ b. by (isBlock (rulingOf matcher (m .rules) (m .«rule_count») (m .«default_action») topic .action))
     (λ k. rw (n, b, k) (record { denial-same = refl; rate-same = refl }))
     (λ k. rw (n, b, k) (record { denial-same = refl; rate-same = refl })))))
+
+-- the gate denies no Publish with 6
+not-six : (matcher : List ℕ → List ℕ → Bool) (m : MqttMonitor) (topic : List ℕ) → gateIn matcher m aPublish topic .denial ≡ 6 → ⊥
+unfolding gateOf gateAfter
+not-six matcher m topic =
+    by (none topic)
+    (λ n. rw n (λ q. omega arith))
+    (λ n. by (badPublish topic)
+    (λ b. rw (n, b) (λ q. omega arith))
+    (λ b. by (isBlock (rulingOf matcher (m .rules) (m .«rule_count») (m .«default_action») topic .action))
+    (λ k. rw (n, b, k) (λ q. omega arith))
+    (λ k. rw (n, b, k) (λ q. omega arith))))
 
 -- the kind that denies a Publish, as `inspect` finds it: by its gate, else by the limiter
 abbrev publishKind : Gate → MqttMonitor → List ℕ → ℕ → ℕ
@@ -226,20 +238,60 @@ module _ (matcher : List ℕ → List ℕ → Bool) (m : MqttMonitor) (msg : Mqt
           (λ h. rw (k, h) (λ d f. refl))))
 
       -- A NEWCOMER that is denied with 6 has a bucket then, and stands one token later
-      pub newcomer-stands : opens (standingWith matcher m used .opening) (msg .«timestamp_us») ≡ false → standingWith matcher m used .kind ≡ 6 → 0 < standingWith matcher m used .rate
+      pub newcomer-stands : opens (standingWith matcher m used .opening) (msg .«timestamp_us») ≡ false → standingWith matcher m used .kind ≡ 6
           → standingWith matcher next used
           ≡ standsAt 0 5 (standingWith matcher m used .rate) (laterBy (msg .«timestamp_us») (999999 / standingWith matcher m used .rate + 1))
       newcomer-stands =
           let g : Gate = gateIn matcher m aPublish used in
           rw (by-gate, by-gate-then)
           (by (ltb 0 (g .denial))
-          (λ k. rw k (λ d f z. absurd (omega arith)))
+          (λ k. rw k (λ d f. absurd (not-six matcher m used f)))
           (λ k.
           by (ltb 0 (g .rate))
           (λ h.
           rw (k, h)
-          (λ d f z.
+          (λ d f.
           by (prospectIn bs id .held)
           (λ y. absurd (let q : _≡_ {A = ℕ} 5 6 = rw y at f in omega arith))
           (λ y. rw (waits-new h d y))))
-          (λ h. rw (k, h) (λ d f z. absurd (omega arith)))))
+          (λ h. rw (k, h) (λ d f. absurd (omega arith)))))
+
+-- what a message leaves, under the monitor's own matcher
+module _ (m : MqttMonitor) (msg : MqttMessage) (topic payload : List ℕ) (e : typeNumber (msg .«packet_type») ≡ 3) (r : inspectRefusal m msg topic payload ≡ 0) where
+  abbrev own : List ℕ → List ℕ → Bool
+  own = matcherOf m
+
+  abbrev name : List ℕ
+  name = take (usedTopic msg) topic
+
+  abbrev gate : Gate
+  gate = gateIn own m aPublish name
+
+  by-left : leftIn m name (msg .«timestamp_us») ≡ leftBy gate m name (msg .«timestamp_us»)
+  unfolding leftIn
+  by-left = rw (formed own m msg topic payload e r, le-ltb 128 (length name) (short own m msg topic payload))
+
+  left-kind-by : leftBy gate m name (msg .«timestamp_us») .kind ≡ publishKind gate m name (msg .«timestamp_us»)
+  left-kind-by = by (ltb 0 (gate .denial)) (λ k. rw k) (λ k. rw k)
+
+  -- the kind that denies it is the one found
+  pub left-kind : findingsIn own m msg name (take (usedPayload msg) payload) .denial ≡ leftIn m name (msg .«timestamp_us») .kind
+  left-kind =
+      found own m msg topic payload e r
+      ∙ same-kind (gateIn own m msg name) gate m name (msg .«timestamp_us») (publish-gate own m msg name e)
+      ∙ (rw by-left (sym left-kind-by))
+
+  -- where the limiter counts it, its topic's bucket then has the tokens that are said to be left
+  pub left-tokens : length (m .«rate_buckets») ≡ 32 → msg .«timestamp_us» ≤ 18446744073709551615 → 0 < leftIn m name (msg .«timestamp_us») .rate
+      → let then = inspectWith own m msg topic payload .monitor .«rate_buckets» in
+      getD then (find (holdsBucket (idOf name)) then) noBucket .tokens ≡ leftIn m name (msg .«timestamp_us») .tokens
+  unfolding spentOf
+  left-tokens n low =
+      rw by-left
+      (by (ltb 0 (gate .denial))
+      (λ k. rw k (λ z. absurd (omega arith)))
+      (λ k.
+      rw k
+      (λ z.
+      let h : ltb 0 (gate .rate) ≡ true = lt-ltb 0 (gate .rate) z in
+      rw (tables-then own m msg topic payload e r n low h, h) (ap (λ (b : RateBucket). b .tokens) (stored-there (m .«rate_buckets») (idOf name) (gate .rate) (msg .«timestamp_us») (omega arith))))))
