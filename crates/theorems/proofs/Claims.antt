@@ -22,6 +22,7 @@ use Rattle.theorems.proofs.Removals.{gives-removed, felt-under, removed
 use Rattle.theorems.proofs.Shipped.{shipped-meets}
 use Rattle.theorems.proofs.ShutOut.{shut-out}
 use Rattle.theorems.proofs.Slips.{slips}
+use Rattle.theorems.proofs.Standing.{standing}
 use Rattle.theorems.proofs.Tight.{tight}
 use Rattle.theorems.proofs.Upper.{gives-upper, upper}
 use Rattle.theorems.proofs.Witness.{witness}
@@ -38,6 +39,7 @@ claims =
       removals = record { any-matcher = removed-under; shipped-calls = removed-shipped; gives-upper = gives-upper; failed-free = failed-free };
       spared = record { any-matcher = felt-under; shipped-calls = felt-shipped; gives-removed = gives-removed };
       removal-runs = removal-runs;
+      standing = standing;
       met = tight;
       slips = slips;
       printed = printed-limits;

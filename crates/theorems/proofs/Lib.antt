@@ -30,6 +30,7 @@ mod Seats
 mod Shipped
 mod ShutOut
 mod Slips
+mod Standing
 mod Tight
 mod Turns
 mod Upper

@@ -12,5 +12,6 @@ pub mod Shipped
 pub mod ShutOut
 pub mod Slips
 pub mod Spared
+pub mod Standing
 pub mod Tight
 pub mod Witness
