@@ -4,3 +4,4 @@ pub mod groups;
 pub mod record;
 pub mod run;
 pub mod seen;
+mod standing_lines;

@@ -1,0 +1,2 @@
+pub mod TextBounds
+mod TextLaws
