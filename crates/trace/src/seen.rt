@@ -62,9 +62,10 @@ pub fn see_all(text: &[u8], matching: Matching) -> Seen
     while at < text.len() {
         let group = read_message(text, at, &mut topic, &mut payload);
         if group.number != 0 {
+            let ended = line + 1 + group.line as u64;
             return Seen {
                 number: group.number,
-                line: line + 1 + group.line as u64,
+                line: ended,
                 first,
                 last,
                 monitor: m,

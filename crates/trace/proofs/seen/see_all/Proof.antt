@@ -110,14 +110,14 @@ numbers-small c =
     let seeing = seeing (at-loop c) in
     (omega (arith, seeing .lines, seeing .short, test .loop-test .taken), c .read-message .ensures .1 .0 .line)
 
-add-t26 : tie.Need-add-t26 Inv-loop μ-loop
-add-t26 c = omega (arith, numbers-small (read-of c))
+add-ended : tie.Need-add-ended Inv-loop μ-loop
+add-ended c = omega (arith, numbers-small (read-of c))
 
-cast-t27 : tie.Need-cast-t27 Inv-loop μ-loop
-cast-t27 c = omega (arith, numbers-small (read-of (c .before)))
+cast-ended : tie.Need-cast-ended Inv-loop μ-loop
+cast-ended c = omega (arith, numbers-small (read-of (c .before)))
 
-add-t28 : tie.Need-add-t28 Inv-loop μ-loop
-add-t28 c = omega (arith, numbers-small (read-of (c .before)))
+add-ended-2 : tie.Need-add-ended-2 Inv-loop μ-loop
+add-ended-2 c = omega (arith, numbers-small (read-of (c .before)))
 
 -- after a message that is refused none is left
 returns-2 : tie.Need-returns-2 Inv-loop μ-loop
@@ -195,6 +195,6 @@ returns-3 c =
 pub see-all-spec : {M : Type 1} → statement M
 see-all-spec =
     tie.close
-    (tie.spec Inv-loop μ-loop load-requires fresh-requires returns buffer-128-requires buffer-256-requires loop-holds read-message-requires add-t26 cast-t27
-    add-t28 returns-2 cast-topic-len cast-payload-len array-share-prefix-topic slice-aggregate-inspect array-share-prefix-payload slice-aggregate-inspect-2
+    (tie.spec Inv-loop μ-loop load-requires fresh-requires returns buffer-128-requires buffer-256-requires loop-holds read-message-requires add-ended cast-ended
+    add-ended-2 returns-2 cast-topic-len cast-payload-len array-share-prefix-topic slice-aggregate-inspect array-share-prefix-payload slice-aggregate-inspect-2
     inspect-requires add-line loop-less loop-again returns-3)
