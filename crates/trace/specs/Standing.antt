@@ -15,12 +15,14 @@ use Rattle.tables.specs.Standing.{openingNew, takenIn, oldestFirst}
 use Rattle.tables.specs.declared.buckets.RateBucket.{RateBucket}
 use Rattle.tables.specs.declared.standing.Opening.{Opening}
 use Rattle.tables.specs.declared.standing.Opening.the-variants.{Never, From}
+use Rattle.monitor.specs.Message.{typeNumber}
 use Rattle.monitor.specs.Runs.{Call}
 use Rattle.monitor.specs.Standing.{standingIn, leftIn}
+use Rattle.monitor.specs.declared.message.MqttPacketType.{MqttPacketType}
 use Rattle.monitor.specs.declared.standing.Left.{Left}
 use Rattle.monitor.specs.declared.standing.Outlook.{Outlook}
 use Rattle.monitor.specs.declared.state.MqttMonitor.{MqttMonitor}
-use Rattle.trace.specs.Seen.{lastTime, endState, namedBy, isPublish, isNamed}
+use Rattle.trace.specs.Seen.{lastTime, endState, namedBy, isNamed}
 use Rattle.trace.specs.Trace.{messagesOf}
 use Rattle.trace.specs.declared.run.TraceEnd.{TraceEnd}
 
@@ -49,25 +51,27 @@ topicText topic o l last =
     ++ numberLine (bytes "kind=") (o .kind) ++ openingText (bytes "from=") last (o .opening)
 
 -- a message reached the limiter, and no later one names its topic
-abbrev pub lastOf : MqttMonitor → Call → List Call → Bool
-lastOf m x xs = isPublish x && ltb 0 (standingIn m (x .topic) .rate) && not (isNamed xs (x .topic))
+abbrev pub speaksLast : MqttMonitor → MqttPacketType → List ℕ → List Call → Bool
+speaksLast m type topic later = eqb (typeNumber type) 3 && ltb 0 (standingIn m topic .rate) && not (isNamed later topic)
+
+-- its topic's lines, at its last message
+abbrev pub messageText : MqttMonitor → ℕ → MqttPacketType → List ℕ → List Call → List ℕ
+messageText m last type topic later = cond (speaksLast m type topic later) (topicText topic (standingIn m topic) (leftIn m topic last) last) []
 
 -- the topics that reached the limiter
 unfoldable pub topicsText : MqttMonitor → ℕ → List Call → List ℕ
 topicsText m last [] = []
-topicsText m last (x ∷ xs) =
-    cond (lastOf m x xs) (topicText (x .topic) (standingIn m (x .topic)) (leftIn m (x .topic) last) last) [] ++ topicsText m last xs
+topicsText m last (x ∷ xs) = messageText m last (x .msg .«packet_type») (x .topic) xs ++ topicsText m last xs
 
--- all lines of a state after messages
-unfoldable pub standingLines : MqttMonitor → List Call → List ℕ
-standingLines m calls =
-    numberLine (bytes "last=") (lastTime 0 calls) ++ numberLine (bytes "taken=") (takenIn (m .«rate_buckets»))
-    ++ placesText calls (oldestFirst 32 (m .«rate_buckets»)) ++ openingText (bytes "new=") (lastTime 0 calls) (openingNew (m .«rate_buckets»))
-    ++ topicsText m (lastTime 0 calls) calls
+-- all lines of a state after messages, the last of them at a time
+unfoldable pub standingLines : MqttMonitor → ℕ → List Call → List ℕ
+standingLines m last calls =
+    (numberLine (bytes "last=") last ++ numberLine (bytes "taken=") (takenIn (m .«rate_buckets»)))
+    ++ placesText calls (oldestFirst 32 (m .«rate_buckets»)) ++ openingText (bytes "new=") last (openingNew (m .«rate_buckets»)) ++ topicsText m last calls
 
 -- all lines of a trace
 abbrev pub standingText : Matching → List ℕ → List ℕ
-standingText matching s = standingLines (endState matching s) (messagesOf matching s .sent)
+standingText matching s = standingLines (endState matching s) (lastTime 0 (messagesOf matching s .sent)) (messagesOf matching s .sent)
 
 -- how the trace ended, in a buffer of so much room: 28 where that is shorter than all lines
 unfoldable pub standingEnd : Matching → ℕ → List ℕ → TraceEnd

@@ -4,4 +4,5 @@ pub mod groups;
 pub mod record;
 pub mod run;
 pub mod seen;
+pub mod standing;
 mod standing_lines;

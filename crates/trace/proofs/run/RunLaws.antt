@@ -106,7 +106,7 @@ module _ (s : List ℕ) where
   plan-sent at m e t p q = rw (t, p, e) at q
 
 -- a text after another
-put-then : (write : Bool) (d : List ℕ) (at : ℕ) (t u : List ℕ) → (write ≡ true → at + length t ≤ length d)
+pub put-then : (write : Bool) (d : List ℕ) (at : ℕ) (t u : List ℕ) → (write ≡ true → at + length t ≤ length d)
     → putIf write (putIf write d at t) (at + length t) u ≡ putIf write d at (t ++ u)
 put-then true d at t u h =
     let w : Wrote d (sets d at t) at t (at + length t) = record { next = omega (arith, h refl); bytes = refl } in
@@ -114,7 +114,7 @@ put-then true d at t u h =
     wrote-then w v .bytes
 put-then false d at t u h = refl
 
-put-long : (write : Bool) (d : List ℕ) (at : ℕ) (t : List ℕ) → length (putIf write d at t) ≡ length d
+pub put-long : (write : Bool) (d : List ℕ) (at : ℕ) (t : List ℕ) → length (putIf write d at t) ≡ length d
 put-long true d at t = length-sets d at t
 put-long false d at t = refl
 
