@@ -19,7 +19,7 @@ ghost use mathlib.Core.Bool.{_&&_};
 ghost use mathlib.Core.Path.{_≡_};
 ghost use Prim.Native.Nat.{_≤_};
 ghost use lib.Dec.{eqb};
-ghost use lib.ListN.{take};
+ghost use lib.ListN.{length, take};
 ghost use Rattle.slices.specs.Bytes.{same};
 ghost use Rattle.monitor.specs.Message.{typeNumber};
 ghost use Rattle.trace.specs.Seen.{sentFrom, seenIn, namedBy, isNamed};
@@ -93,6 +93,7 @@ pub fn see_all(text: &[u8], matching: Matching) -> Seen
 pub fn find_named(text: &[u8], at: usize, held: Id, name: &mut [u8; TOPIC_MAX]) -> usize
     ensures named { λ r. ⌜ take r (now (name .exit)) ≡ namedBy (sentFrom (now (text .entry)) at) held ⌝ }
     ensures short { λ r. ⌜ r ≤ 128 ⌝ }
+    ensures long { λ _. ⌜ (length (now (name .entry)) ≡ 128 → length (now (name .exit)) ≡ 128) ⌝ }
 {
     let mut topic = buffer_128();
     let mut payload = buffer_256();

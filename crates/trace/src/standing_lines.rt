@@ -10,7 +10,8 @@ use tables::standing::Opening;
 use topics::shown::is_readable;
 use topics::shown::shown_byte;
 ghost use mathlib.Core.Path.{_≡_};
-ghost use Prim.Native.Nat.{_-_};
+ghost use Prim.Native.Nat.{_-_, _≤_};
+ghost use lib.ListN.{length};
 ghost use Rattle.lines.specs.Wrote.{Wrote};
 ghost use Rattle.topics.specs.Shown.{shown};
 ghost use Rattle.tables.specs.declared.standing.Opening.the-variants.{Never, From};
@@ -52,7 +53,8 @@ fn after(last: u64, time: u64) -> u64
 
 // A time's two lines: the time after its key, and the wait for it.
 fn put_from(out: &mut [u8], at: usize, key: &[u8], last: u64, time: u64) -> usize
-    ensures { λ r. ⌜ Wrote (now (out .entry)) (now (out .exit)) at (openingText (now (key .entry)) last (From time)) r ⌝ }
+    ensures text { λ r. ⌜ Wrote (now (out .entry)) (now (out .exit)) at (openingText (now (key .entry)) last (From time)) r ⌝ }
+    ensures short { λ _. ⌜ (length (now (key .entry)) ≤ 5 → length (openingText (now (key .entry)) last (From time)) ≤ 53) ⌝ }
 {
     let wait = after(last, time);
     let after_time = put_number_line(out, at, key, time);
@@ -76,7 +78,8 @@ pub(crate) fn put_opening(
     last: u64,
     opening: Opening,
 ) -> usize
-    ensures { λ r. ⌜ Wrote (now (out .entry)) (now (out .exit)) at (openingText (now (key .entry)) last opening) r ⌝ }
+    ensures text { λ r. ⌜ Wrote (now (out .entry)) (now (out .exit)) at (openingText (now (key .entry)) last opening) r ⌝ }
+    ensures short { λ _. ⌜ (length (now (key .entry)) ≤ 5 → length (openingText (now (key .entry)) last opening) ≤ 53) ⌝ }
 {
     match opening {
         Opening::Never => put_never(out, at, key, last),
@@ -86,7 +89,7 @@ pub(crate) fn put_opening(
 
 // How many messages of a topic would pass at that time.
 fn tokens_of(left: Left) -> u64
-    ensures { λ r. ⌜ r ≡ tokensOf left ⌝ }
+    ensures { λ r. ⌜ (r ≡ tokensOf left) × (r ≤ 65536) ⌝ }
 {
     if left.kind == 0 {
         return left.tokens as u64 + 1;
@@ -103,7 +106,8 @@ pub(crate) fn put_topic(
     left: Left,
     last: u64,
 ) -> usize
-    ensures { λ r. ⌜ Wrote (now (out .entry)) (now (out .exit)) at (topicText (now (topic .entry)) outlook left last) r ⌝ }
+    ensures text { λ r. ⌜ Wrote (now (out .entry)) (now (out .exit)) at (topicText (now (topic .entry)) outlook left last) r ⌝ }
+    ensures short { λ _. ⌜ (length (now (topic .entry)) ≤ 128 → length (topicText (now (topic .entry)) outlook left last) ≤ 490) ⌝ }
 {
     let opening = outlook.opening;
     let tokens = tokens_of(left);

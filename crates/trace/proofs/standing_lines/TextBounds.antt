@@ -3,9 +3,7 @@ use Prim.Native.Nat.{ℕ, _+_, _-_, _/_, _^_, _≤_, _<_}
 use mathlib.Core.Path.{_≡_}
 use mathlib.Core.List.{List}
 use native.Mathlib.Omega.{arith}
-use lib.Dec.{eqb}
 use lib.ListN.{length, length-append}
-use Rattle.laws.proofs.Cases.{whichever}
 use Rattle.slices.specs.Bytes.{bytes}
 use Rattle.lines.specs.Decimal.{decimal}
 use Rattle.lines.specs.Line.{numberLine, hexLine, secondsLine}
@@ -49,20 +47,17 @@ opening-short key last (From u) h w =
 number-short : (key : List ℕ) (n d : ℕ) → length (decimal n) ≤ d → length (numberLine key n) ≤ length key + d + 1
 number-short key n d h = omega (arith, number-line-length key n)
 
-tokens-few : (l : Left) → l .tokens < 65536 → tokensOf l ≤ 65536
-tokens-few l h = whichever (λ (n : ℕ). n ≤ 65536) (eqb (l .kind) 0) (omega arith) (omega arith)
-
 module _ (topic : List ℕ) (o : Outlook) (l : Left) (last : ℕ) where
   topic-length : length (topicText topic o l last) ≡ length (nameText (bytes "topic=") topic) + length (numberLine (bytes "rate=") (o .rate))
       + length (numberLine (bytes "tokens=") (tokensOf l)) + length (numberLine (bytes "kind=") (o .kind)) + length (openingText (bytes "from=") last (o .opening))
   unfolding topicText
   topic-length = simp length-append
 
-  pub topic-short : length topic ≤ 128 → o .rate < 65536 → l .tokens < 65536 → o .kind < 2 ^ 32 → opens-within (o .opening) → length (topicText topic o l last) ≤ 490
-  topic-short a b c d w =
+  pub topic-short : length topic ≤ 128 → o .rate < 65536 → tokensOf l ≤ 65536 → o .kind < 2 ^ 32 → length (openingText (bytes "from=") last (o .opening)) ≤ 53
+      → length (topicText topic o l last) ≤ 490
+  topic-short a b c d s =
       let n = name-short (bytes "topic=") topic (omega arith) a in
       let p = number-short (bytes "rate=") (o .rate) 5 (decimal-short 4 _ (omega (arith, b))) in
-      let q = number-short (bytes "tokens=") (tokensOf l) 5 (decimal-short 4 _ (omega (arith, tokens-few l c))) in
+      let q = number-short (bytes "tokens=") (tokensOf l) 5 (decimal-short 4 _ (omega (arith, c))) in
       let r = number-short (bytes "kind=") (o .kind) 10 (decimal-short 9 _ (omega (arith, d))) in
-      let s = opening-short (bytes "from=") last (o .opening) (omega arith) w in
       omega (arith, topic-length)

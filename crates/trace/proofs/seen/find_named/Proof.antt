@@ -18,7 +18,7 @@ use Rattle.trace.proofs.seen.find_named.Tie as tie
 
 abbrev Inv-loop : tie.InvT-loop
 Inv-loop text at held name₀ topic₀ payload₀ p₀ name topic payload p =
-    (namedBy (sentFrom text p) held ≡ namedBy (sentFrom text at) held) × (length topic ≡ 128) × (length payload ≡ 256)
+    (namedBy (sentFrom text p) held ≡ namedBy (sentFrom text at) held) × (length topic ≡ 128) × (length payload ≡ 256) × (length name₀ ≡ 128 → length name ≡ 128)
 
 abbrev μ-loop : tie.MeasureT-loop
 μ-loop text at held name₀ topic₀ payload₀ p₀ name topic payload p = length text - p
@@ -53,7 +53,7 @@ buffer-256-requires : tie.Need-buffer-256-requires Inv-loop μ-loop
 buffer-256-requires c κs = search needs
 
 loop-holds : tie.Need-loop-holds Inv-loop μ-loop
-loop-holds c = (refl, c .before .buffer-128 .ensures, c .buffer-256 .ensures)
+loop-holds c = (refl, c .before .buffer-128 .ensures, c .buffer-256 .ensures, λ h. h)
 
 read-message-requires : tie.Need-read-message-requires Inv-loop μ-loop
 read-message-requires c κs = search needs
@@ -61,7 +61,7 @@ read-message-requires c κs = search needs
 returns : tie.Need-returns Inv-loop μ-loop
 returns c =
     let read = c .before .before in
-    (named-stop _ _ (at-test read .loop-test .taken) (read .read-message .ensures .0) (c .if1 .taken) ∙ at-loop read .loop .inv .0, omega arith)
+    (named-stop _ _ (at-test read .loop-test .taken) (read .read-message .ensures .0) (c .if1 .taken) ∙ at-loop read .loop .inv .0, (omega arith, at-loop read .loop .inv .3))
 
 cast-n : tie.Need-cast-n Inv-loop μ-loop
 cast-n c = search needs
@@ -100,7 +100,7 @@ returns-2 c =
       named-here _ _ (at-test read .loop-test .taken) (read .read-message .ensures .0) (message .if1 .left) (has .0) (c .before .before .id-of .ensures) (c .before .is-of .ensures)
           (c .if2 .taken)
           ∙ at-loop read .loop .inv .0,
-      omega (arith, has .1, has .2),
+      (omega (arith, has .1, has .2), λ h. has .2),
     )
 
 loop-less : tie.Need-loop-less Inv-loop μ-loop
@@ -118,10 +118,11 @@ loop-again c =
           ∙ at-loop read .loop .inv .0,
       topic-has message .2,
       payload-long message,
+      at-loop read .loop .inv .3,
     )
 
 returns-3 : tie.Need-returns-3 Inv-loop μ-loop
-returns-3 c = (named-end (text (c .before)) (start-of (c .before) .args .held) (c .loop-test .left) ∙ c .before .loop .inv .0, omega arith)
+returns-3 c = (named-end (text (c .before)) (start-of (c .before) .args .held) (c .loop-test .left) ∙ c .before .loop .inv .0, (omega arith, c .before .loop .inv .3))
 
 pub find-named-spec : {M : Type 1} → statement M
 find-named-spec =

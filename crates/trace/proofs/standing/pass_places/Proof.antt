@@ -1,117 +1,153 @@
+-- `trace::standing::pass_places` meets its contract. The invariant: what is left to go out are the places of the buckets that are left, at most `left` of them; each takes at most 397 bytes. The measure is
+-- `left`. Assumes nothing.
+use Prim.Native.Nat.{ℕ, suc, _+_, _-_, _*_, _≤_, _<_}
+use mathlib.Core.List.{List, _++_}
+use mathlib.Core.Path.{_≡_, sym, ap, _∙_}
+use native.Mathlib.Omega.{arith}
+use lib.ListN.{length, take, set, length-set}
+use lib.Seq.{length-take-le}
+use borrow.Author.Needs.{needs}
+use Rattle.slices.specs.Bytes.{bytes}
+use Rattle.tables.specs.Buckets.{emptyBucket}
+use Rattle.tables.specs.Standing.{oldestFirst}
+use Rattle.tables.specs.declared.buckets.RateBucket.{RateBucket}
+use Rattle.monitor.specs.Runs.{Call}
+use Rattle.trace.specs.Seen.{sentFrom, namedBy}
+use Rattle.trace.specs.Standing.{nameText, placesText}
+use Rattle.trace.proofs.standing.PassLaws.{Passing, passing-start, passing-room, passing-turn, passing-done, passing-bytes, places-turn, places-stop, places-none}
 use Rattle.trace.proofs.standing.pass_places.Statement.{statement}
 use Rattle.trace.proofs.standing.pass_places.Tie as tie
-use Rattle.trace.proofs.standing.pass_places.Reads as reads
-use Rattle.trace.proofs.standing.pass_places.Lts as lts
-use Rattle.tables.proofs.buckets.empty_bucket.Reads as empty-bucket-reads
-use Rattle.tables.proofs.standing.oldest_live.Reads as oldest-live-reads
-use Rattle.trace.proofs.run.buffer_128.Reads as buffer-128-reads
-use Rattle.trace.proofs.seen.find_named.Reads as find-named-reads
-use Rattle.trace.proofs.standing.pass_place.Reads as pass-place-reads
 
 abbrev Inv-loop : tie.InvT-loop
-Inv-loop text first out₀ at write rest₀ name₀ p₀ left₀ out rest name p left = ?
+Inv-loop text first out₀ at write rest₀ name₀ p₀ left₀ out rest name p left =
+    Passing write out₀ out at p (placesText (sentFrom text first) (oldestFirst left rest)) (placesText (sentFrom text first) (oldestFirst 32 rest₀))
+    × (left ≤ 32) × (p + 397 * left ≤ at + 12704) × (length name ≡ 128) × (length rest ≡ 32)
 
 abbrev μ-loop : tie.MeasureT-loop
-μ-loop text first out₀ at write rest₀ name₀ p₀ left₀ out rest name p left = ?
+μ-loop text first out₀ at write rest₀ name₀ p₀ left₀ out rest name p left = left
 
--- src/standing.rt:140:20
+-- the places of a turn: the start, its test and its head, the oldest is found, it is there, its name is found
+abbrev start-of : tie.At-loop Inv-loop μ-loop → tie.Start Inv-loop μ-loop
+start-of c = c .before .before .before .before
+
+abbrev at-loop : tie.After-oldest-live Inv-loop μ-loop → tie.At-loop Inv-loop μ-loop
+at-loop c = c .before .before
+
+abbrev at-oldest : tie.After-find-named Inv-loop μ-loop → tie.After-oldest-live Inv-loop μ-loop
+at-oldest c = c .before .before .before .before .before
+
+abbrev calls : tie.At-loop Inv-loop μ-loop → List Call
+calls c = sentFrom (start-of c .args .text .now) (start-of c .args .first)
+
 buffer-128-requires : tie.Need-buffer-128-requires Inv-loop μ-loop
-buffer-128-requires c κs = ?
+buffer-128-requires c κs = search needs
 
--- src/standing.rt:143:5
 loop-holds : tie.Need-loop-holds Inv-loop μ-loop
-loop-holds c = ?
+loop-holds c =
+    let n : length (c .before .before .before .args .buckets) ≡ 32 = search needs in (passing-start _ _ _ _, omega arith, omega arith, c .buffer-128 .ensures, n)
 
--- src/standing.rt:144:13
 oldest-live-requires : tie.Need-oldest-live-requires Inv-loop μ-loop
-oldest-live-requires c κs = ?
+oldest-live-requires c κs = search needs
 
--- src/standing.rt:146:13
 same-length : tie.Need-same-length Inv-loop μ-loop
-same-length c = ?
+same-length c = at-loop (c .before) .loop .inv .0 .long
 
--- src/standing.rt:146:13
 returns : tie.Need-returns Inv-loop μ-loop
-returns c = ?
+returns c =
+    let found = c .before in
+    let l = at-loop found in
+    let none = places-stop (calls l) (l .loop .rest) (found .before .loop-test .taken) (found .oldest-live .ensures) (omega (arith, l .loop .inv .4, c .if1 .taken)) in
+    ((passing-done (l .loop .inv .0) none, omega (arith, l .loop .inv .2)), passing-bytes (l .loop .inv .0) none)
 
--- src/standing.rt:148:22
 mul-bucket : tie.Need-mul-bucket Inv-loop μ-loop
-mul-bucket c = ?
+mul-bucket c = search needs
 
--- src/standing.rt:148:22
 array-copy-out-bucket : tie.Need-array-copy-out-bucket Inv-loop μ-loop
-array-copy-out-bucket c = ?
+array-copy-out-bucket c = search needs
 
--- src/standing.rt:150:13
 find-named-requires : tie.Need-find-named-requires Inv-loop μ-loop
-find-named-requires c κs = ?
+find-named-requires c κs = search needs
 
--- src/standing.rt:151:32
+-- the name's buffer is as long as before
+name-long : (c : tie.After-find-named Inv-loop μ-loop) → length (c .find-named .last .1 .1 .1 .0) ≡ 128
+name-long c = c .find-named .ensures .1 .1 (at-loop (at-oldest c) .loop .inv .3)
+
+-- what goes out in this turn, and what is left then
+abbrev part : tie.After-find-named Inv-loop μ-loop → List ℕ
+part c = nameText (bytes "place=") (take (c .find-named .result) (c .find-named .last .1 .1 .1 .0))
+
+abbrev further : tie.After-find-named Inv-loop μ-loop → List ℕ
+further c =
+    let found = at-oldest c in
+    let l = at-loop found in
+    placesText (calls l) (oldestFirst (l .loop .left - 1) (set (l .loop .rest) (found .oldest-live .result) emptyBucket))
+
+here : (c : tie.After-find-named Inv-loop μ-loop)
+    → let l = at-loop (at-oldest c) in
+    placesText (calls l) (oldestFirst (l .loop .left) (l .loop .rest)) ≡ part c ++ further c
+here c =
+    let found = at-oldest c in
+    let l = at-loop found in
+    places-turn (calls l) (l .loop .rest) (found .before .loop-test .taken) (found .oldest-live .ensures)
+    (omega (arith, l .loop .inv .4, c .before .before .before .before .if1 .left)) (c .find-named .ensures .0)
+
 array-share-prefix-name : tie.Need-array-share-prefix-name Inv-loop μ-loop
-array-share-prefix-name c = ?
+array-share-prefix-name c = let found = c .before in omega (arith, found .find-named .ensures .1 .0, name-long found)
 
--- src/standing.rt:151:32
 slice-aggregate-pass-place : tie.Need-slice-aggregate-pass-place Inv-loop μ-loop
-slice-aggregate-pass-place c = ?
+slice-aggregate-pass-place c = let found = c .before .before in sym (length-take-le _ _ (omega (arith, found .find-named .ensures .1 .0, name-long found)))
 
--- src/standing.rt:151:9
 pass-place-requires : tie.Need-pass-place-requires Inv-loop μ-loop
-pass-place-requires c κs = ?
+pass-place-requires c κs =
+    let found = c .before .before in
+    let l = at-loop (at-oldest found) in (
+      omega (arith, l .loop .inv .2, start-of l .pre .0),
+      (
+        omega (arith, length-take-le (found .find-named .result) (found .find-named .last .1 .1 .1 .0) (omega (arith, found .find-named .ensures .1 .0, name-long found)), found .find-named .ensures .1 .0),
+        passing-room (l .loop .inv .0) (part found) (further found) (here found) (start-of l .pre .1),
+      ),
+    )
 
--- src/standing.rt:152:13
 empty-bucket-requires : tie.Need-empty-bucket-requires Inv-loop μ-loop
-empty-bucket-requires c κs = ?
+empty-bucket-requires c κs = search needs
 
--- src/standing.rt:153:9
 mul-rest : tie.Need-mul-rest Inv-loop μ-loop
-mul-rest c = ?
+mul-rest c = search needs
 
--- src/standing.rt:153:9
 array-set-from-rest : tie.Need-array-set-from-rest Inv-loop μ-loop
-array-set-from-rest c = ?
+array-set-from-rest c = search needs
 
--- src/standing.rt:154:9
 sub-left : tie.Need-sub-left Inv-loop μ-loop
-sub-left c = ?
+sub-left c = search needs
 
--- src/standing.rt:143:5
 loop-less : tie.Need-loop-less Inv-loop μ-loop
-loop-less c = ?
+loop-less c = search needs
 
--- src/standing.rt:143:5
 loop-again : tie.Need-loop-again Inv-loop μ-loop
-loop-again c = ?
+loop-again c =
+    let passed = c .before .before .before in
+    let found = passed .before .before .before in
+    let l = at-loop (at-oldest found) in (
+      rw (c .empty-bucket .ensures) (passing-turn (l .loop .inv .0) (part found) (further found) (here found) (start-of l .pre .1) (passed .pass-place .ensures .0 .0) (passed .pass-place .ensures .1)),
+      omega (arith, l .loop .inv .1),
+      omega (arith, l .loop .inv .2, passed .pass-place .ensures .0 .1, at-oldest found .before .loop-test .taken),
+      name-long found,
+      length-set (l .loop .rest) (at-oldest found .oldest-live .result) (c .empty-bucket .result) ∙ l .loop .inv .4,
+    )
 
--- src/standing.rt:126:1
 same-length-2 : tie.Need-same-length-2 Inv-loop μ-loop
-same-length-2 c = ?
+same-length-2 c = c .before .loop .inv .0 .long
 
--- src/standing.rt:126:1
 returns-2 : tie.Need-returns-2 Inv-loop μ-loop
-returns-2 c = ?
+returns-2 c =
+    let l = c .before in
+    let none = places-none (calls l) (l .loop .rest) (c .loop-test .left) in
+    ((passing-done (l .loop .inv .0) none, omega (arith, l .loop .inv .2)), passing-bytes (l .loop .inv .0) none)
 
 pub pass-places-spec : {M : Type 1} → statement M
 pass-places-spec =
     tie.close
     (tie.spec
-    Inv-loop
-    μ-loop
-    buffer-128-requires
-    loop-holds
-    oldest-live-requires
-    same-length
-    returns
-    mul-bucket
-    array-copy-out-bucket
-    find-named-requires
-    array-share-prefix-name
-    slice-aggregate-pass-place
-    pass-place-requires
-    empty-bucket-requires
-    mul-rest
-    array-set-from-rest
-    sub-left
-    loop-less
-    loop-again
-    same-length-2
-    returns-2)
+    Inv-loop μ-loop buffer-128-requires loop-holds oldest-live-requires same-length returns mul-bucket array-copy-out-bucket find-named-requires
+    array-share-prefix-name slice-aggregate-pass-place pass-place-requires empty-bucket-requires mul-rest array-set-from-rest sub-left loop-less loop-again
+    same-length-2 returns-2)

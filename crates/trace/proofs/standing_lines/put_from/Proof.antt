@@ -1,7 +1,9 @@
 -- `trace::standing_lines::put_from` meets its contract: two lines, one after the other. Assumes nothing.
 use borrow.Author.Needs.{needs}
 use Rattle.lines.proofs.put.WroteLaws.{wrote-then}
+use Rattle.tables.specs.declared.standing.Opening.the-variants.{From}
 use Rattle.trace.specs.Standing.{openingText}
+use Rattle.trace.proofs.standing_lines.TextBounds.{opening-short}
 use Rattle.trace.proofs.standing_lines.put_from.Statement.{statement}
 use Rattle.trace.proofs.standing_lines.put_from.Tie as tie
 
@@ -25,7 +27,10 @@ unfolding openingText
 returns c =
     let at-wait = c .before .before in
     let at-time = at-wait .before .before .before .before .before in
-    rw (← at-time .before .before .after .ensures) (wrote-then (at-time .put-number-line .ensures) (at-wait .put-seconds-line .ensures))
+    let start = at-time .before .before .before .before .before in (
+      rw (← at-time .before .before .after .ensures) (wrote-then (at-time .put-number-line .ensures) (at-wait .put-seconds-line .ensures)),
+      λ h. opening-short (start .args .key .now) (start .args .last) (From (start .args .time)) h (search needs),
+    )
 
 pub put-from-spec : {M : Type 1} → statement M
 put-from-spec =

@@ -1,5 +1,8 @@
 -- `trace::standing_lines::put_opening` meets its contract, by cases on the opening. Assumes nothing.
+use Prim.{tt}
 use borrow.Author.Needs.{needs}
+use Rattle.tables.specs.declared.standing.Opening.the-variants.{Never}
+use Rattle.trace.proofs.standing_lines.TextBounds.{opening-short}
 use Rattle.trace.proofs.standing_lines.put_opening.Statement.{statement}
 use Rattle.trace.proofs.standing_lines.put_opening.Tie as tie
 
@@ -21,7 +24,7 @@ same-length c = search needs
 returns : tie.Need-returns
 returns c =
     let at-never = c .before .before in
-    rw (at-never .before .before .enum-told .given .1) (at-never .put-never .ensures)
+    rw (at-never .before .before .enum-told .given .1) (at-never .put-never .ensures, λ h. opening-short _ _ Never h tt)
 
 same-length-2 : tie.Need-same-length-2
 same-length-2 c = search needs

@@ -1,7 +1,10 @@
 -- `trace::standing_lines::put_topic` meets its contract: a name, three lines and an opening, one after the other. Assumes nothing.
+use Prim.Native.Nat.{_^_, _<_}
+use native.Mathlib.Omega.{arith}
 use borrow.Author.Needs.{needs}
 use Rattle.lines.proofs.put.WroteLaws.{wrote-then}
 use Rattle.trace.specs.Standing.{topicText}
+use Rattle.trace.proofs.standing_lines.TextBounds.{topic-short}
 use Rattle.trace.proofs.standing_lines.put_topic.Statement.{statement}
 use Rattle.trace.proofs.standing_lines.put_topic.Tie as tie
 
@@ -47,6 +50,15 @@ put-opening-requires c κs = search needs
 same-length : tie.Need-same-length
 same-length c = search needs
 
+-- what the types of two fields say
+rate-fits : (c : tie.After-struct-known) → c .before .before .before .before .before .before .before .before .before .before .before .args .outlook .rate < 65536
+rate-fits c = search needs
+
+kind-fits : (c : tie.After-struct-known2)
+    → c .before .before .before .before .before .before .before .before .before .before .before .before .before .before .before .before .before .before .before .before .before .before .args
+    .outlook .kind < 2 ^ 32
+kind-fits c = search needs
+
 returns : tie.Need-returns
 unfolding topicText
 returns c =
@@ -56,12 +68,16 @@ returns c =
     let at-rate = at-tokens .before .before .before .before .before in
     let at-name = at-rate .before .before .before .before .before .before in
     let counted = at-name .before .before .before in
-    wrote-then
-    (wrote-then
-    (wrote-then (wrote-then (at-name .put-name .ensures) (at-rate .put-number-line .ensures))
-    (rw (counted .tokens-of .ensures) at (at-tokens .put-number-line2 .ensures)))
-    (at-kind .put-number-line3 .ensures))
-    (at-opening .put-opening .ensures)
+    let given = counted .before .before .before .args in (
+      wrote-then
+          (wrote-then
+          (wrote-then (wrote-then (at-name .put-name .ensures) (at-rate .put-number-line .ensures))
+          (rw (counted .tokens-of .ensures .0) at (at-tokens .put-number-line2 .ensures)))
+          (at-kind .put-number-line3 .ensures))
+          (at-opening .put-opening .ensures .0),
+      λ h. topic-short (given .topic .now) (given .outlook) (given .left) (given .last) h (rate-fits (at-rate .before)) (omega (arith, counted .tokens-of .ensures))
+          (kind-fits (at-kind .before)) (at-opening .put-opening .ensures .1 (omega arith)),
+    )
 
 pub put-topic-spec : {M : Type 1} → statement M
 put-topic-spec =
