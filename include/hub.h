@@ -115,6 +115,15 @@ struct HubTrace hub_trace_length(const uint8_t *text, size_t text_len);
 struct HubTrace hub_trace_standard(const uint8_t *text, size_t text_len, uint8_t *out, size_t out_len);
 struct HubTrace hub_trace_standard_length(const uint8_t *text, size_t text_len);
 
+/* Where the limit stands after a whole trace: the lines of docs/STANDING.md, which follow the answer of hub_trace, or of
+ * hub_trace_standard, where they are asked for. They go to the front of `out`, and the rest of it is left as it was.
+ * `number` and `line` say how the trace ended, as there; `length` is how many bytes these lines have. An `out` that they
+ * do not fit into is refused with 28, line 0, length 0 and nothing written; one of HUB_TRACE_ENOUGH bytes always does
+ * (proved). A message whose topic is named late is looked for in the whole text, so the time grows with the square of
+ * the messages (docs/MEASURED.md). */
+struct HubTrace hub_standing(const uint8_t *text, size_t text_len, uint8_t *out, size_t out_len);
+struct HubTrace hub_standing_standard(const uint8_t *text, size_t text_len, uint8_t *out, size_t out_len);
+
 #ifdef __cplusplus
 }
 #endif

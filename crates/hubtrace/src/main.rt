@@ -1,5 +1,5 @@
 // hubtrace: a trace on standard input, its answer on standard output (document 01, "The trace"). All of the work is `trace::run::run_trace_by`; here are only the
-// two buffers and the way in and out. That the answer is whole is promised by `answer`; what `read` and `write` move, and the word behind the program's name, are
+// two buffers and the way in and out. That the answer is whole is promised by `answer` and `stand`; what `read` and `write` move, and the word behind the program's name, are
 // the C library's word. With `--match=standard` the rules are matched as MQTT 3.1.1 section 4.7 has it, else as the Rust does.
 // A program has no exit status of its own: it says on standard error what failed, and nothing where nothing did. `bin/hubtrace` makes a status of that.
 mod asked;
@@ -13,12 +13,13 @@ use libc::STDIN_FILENO;
 use libc::STDOUT_FILENO;
 use topics::matching::Matching;
 use trace::run;
+use trace::standing;
 use turn::Done;
 ghost use mathlib.Core.Path.{_≡_};
 ghost use lib.ListN.{length, take};
 ghost use Rattle.trace.specs.Trace.{enough};
 ghost use Rattle.io.specs.Counts.{Counts};
-ghost use Rattle.hubtrace.specs.Answered.{answerTo};
+ghost use Rattle.hubtrace.specs.Answered.{answerTo, standingAfter};
 ghost use Rattle.hubtrace.specs.Turns.{DoneWithin};
 
 // Room for the longest trace, 65,536 bytes, and for one byte more, by which a longer one is known (27).
@@ -49,6 +50,20 @@ fn answer(matching: Matching, read: Done, text: &[u8], out: &mut [u8]) -> usize
     end.length
 }
 
+// Where the limit stands after it, in the same way; there is room for all of that too.
+fn stand(matching: Matching, read: Done, text: &[u8], out: &mut [u8]) -> usize
+    requires { ⌜ DoneWithin read (length (now text)) ⌝ }
+    requires { ⌜ enough ≡ length (now out) ⌝ }
+    ensures { λ r. ⌜ Counts r (now (out .exit)) ⌝ }
+    ensures { λ r. ⌜ take r (now (out .exit)) ≡ standingAfter matching read (now (text .entry)) ⌝ }
+{
+    let Done::Bytes(n) = read else {
+        return 0;
+    };
+    let end = standing::write_standing(&text[..n], matching, out);
+    end.length
+}
+
 // Writes the answer, and says so where that failed.
 fn print(answer: &[u8]) {
     let written = output::write_all(STDOUT_FILENO, answer);
@@ -57,8 +72,8 @@ fn print(answer: &[u8]) {
     }
 }
 
-// Reads a trace, and writes its answer or says what failed.
-fn run(matching: Matching) {
+// Reads a trace, and writes its answer, and where it is asked for where the limit stands then; or says what failed.
+fn run(matching: Matching, standing: bool) {
     let mut text = text_buffer();
     let read = input::read_all(STDIN_FILENO, &mut text);
     let mut out = answer_buffer();
@@ -67,16 +82,21 @@ fn run(matching: Matching) {
         Done::Failed => os::fail(b"hubtrace: the trace could not be read, so nothing was answered"),
         Done::Bytes(_) => print(&out[..length]),
     }
+    if standing {
+        let more = stand(matching, read, &text, &mut out);
+        print(&out[..more]);
+    }
 }
 
 fn main() {
     let asked = asked::by_words();
     match asked {
-        Asked::For(matching) => run(matching),
+        Asked::For(matching) => run(matching, false),
+        Asked::Standing(matching) => run(matching, true),
         Asked::Unknown => {
             io::write_all(
                 STDERR_FILENO,
-                b"hubtrace: the one word that it takes is --match=port or --match=standard\n",
+                b"hubtrace: it takes --match=port or --match=standard, and after it --standing\n",
             );
         }
     }
