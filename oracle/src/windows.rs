@@ -11,9 +11,8 @@ use crate::answers::{NEW, NEW_DENY_DEFAULT, bytes, id_words};
 use crate::said::{self, Look, Said};
 use crate::tally::Class;
 use std::collections::BTreeMap;
-use vs_mqtt_monitor::opened::{contains_invalid_publish_char, djb2_hash, suffix_hash};
-use vs_mqtt_monitor::state::Id;
-use vs_types_embedded::fnv1a_hash;
+use vs_mqtt_monitor::opened::contains_invalid_publish_char;
+use vs_mqtt_monitor::state::identity;
 
 /// What windows must have met.
 const MET: [&str; 13] = [
@@ -267,20 +266,5 @@ impl<'a> Reader<'a> {
             let lines = self.said[..behind].iter().map(|said| said.line.into()).collect();
             self.fault = Some(Fault { lines, window, words });
         }
-    }
-}
-
-/// What tells a topic from others.
-fn identity(topic: &[u8]) -> Id {
-    let first = topic.len().min(32);
-    let mut prefix = [0; 32];
-    prefix[..first].copy_from_slice(&topic[..first]);
-    Id {
-        hash: fnv1a_hash(topic),
-        hash2: djb2_hash(topic),
-        len: topic.len() as u16,
-        suffix_hash: suffix_hash(topic),
-        prefix_len: first as u8,
-        prefix,
     }
 }
