@@ -8,13 +8,7 @@ pub const MAKERS: &[Maker] = &[
     (
         "names that are hard to show",
         names,
-        &[
-            "shown as it is",
-            "shown as it is beyond ASCII",
-            "dots for a control character",
-            "dots for what is no UTF-8",
-            "a place first named by another type",
-        ],
+        &["shown as it is", "shown as it is beyond ASCII", "dots for a control character", "dots for what is no UTF-8"],
     ),
     (
         "tables that are full or nearly, at the edges of time",

@@ -6,12 +6,12 @@
 use crate::hub::{self, HubTrace};
 use crate::met::Met;
 use crate::tally::Random;
-use crate::tried::{self, NO_PLACE, SPENT, Tried};
+use crate::tried::{self, SPENT, Stand, Tried};
 use std::collections::{BTreeMap, BTreeSet};
 use std::fmt::Write;
 use trace::End;
 use vs_mqtt_monitor::state::{self, Bucket, identity};
-use vs_mqtt_monitor::{MqttMonitor, matcher};
+use vs_mqtt_monitor::{MqttMonitor, TopicAction, matcher, opened};
 use vs_types_embedded::{MqttPacketType, fnv1a_hash};
 
 const HUB_STANDING: fn(&[u8], &mut [u8]) -> HubTrace =
@@ -23,8 +23,11 @@ const SELDOM: usize = 150;
 /// Of each topic some more is tried once in so many times.
 const SOME: usize = 6;
 
+/// Topics that the port would list otherwise than MQTT 3.1.1 has it, or only one of them.
+const CHOSEN: [&str; 2] = ["a rate that the port would not give", "no rate, and the port would give one"];
+
 /// What all traces together must have met.
-pub const ALL: [&str; 42] = [
+const ALL: [&str; 43] = [
     "standing texts",
     "refused before a message",
     "refused behind messages",
@@ -34,8 +37,9 @@ pub const ALL: [&str; 42] = [
     "all places taken",
     "places of one time",
     "an older place behind a younger one",
+    "places that gave way to newcomers",
     "a place later than the last message",
-    "a place first named by another topic",
+    "a place of more than one topic",
     "a place first named by another type",
     "a new topic passes at once",
     "a new topic passes by now",
@@ -68,6 +72,11 @@ pub const ALL: [&str; 42] = [
     "searched again after a try",
     "room too short",
 ];
+
+/// All of it; where the original chooses rules as the port does there is nothing to choose otherwise.
+pub fn all() -> impl Iterator<Item = &'static str> {
+    ALL.into_iter().chain(CHOSEN.into_iter().filter(|_| matcher::STANDARD))
+}
 
 /// A message, as far as it says where the limit stands.
 struct Message {
@@ -151,8 +160,11 @@ impl Limit<'_> {
         let taken = places.len();
         writeln!(self.out, "last={}\ntaken={taken}", self.last).unwrap();
         let ordered = places.is_sorted_by_key(|bucket| bucket.at);
+        let way = if self.random.one_in(SOME / 2) { tried::giving_way(self.monitor, self.random) } else { None };
+        self.met.count("places that gave way to newcomers", way.as_ref().map_or(0, |way| way.len() as u64));
         // A sort that is stable: of one time the lower place stays first.
         places.sort_by_key(|bucket| bucket.at);
+        places = way.unwrap_or(places);
         self.met.count(["no place taken", "some places taken", "all places taken"][taken.div_ceil(32) + taken / 32], 1);
         self.met.count("an older place behind a younger one", (!ordered).into());
         self.met.count("places of one time", places.windows(2).any(|two| two[0].at == two[1].at).into());
@@ -163,11 +175,13 @@ impl Limit<'_> {
         }
         for bucket in &places {
             let alike = first.get(&(bucket.id.hash, bucket.id.hash2, bucket.id.len)).into_iter().flatten();
-            let mut alike = alike.filter(|(id, _)| *id == bucket.id).map(|(_, message)| *message);
-            let named = alike.next().ok_or("a place that no message of the trace could have taken")?;
-            self.met.count("a place first named by another type", (!named.publish).into());
-            let other = alike.any(|message| message.topic != named.topic);
-            self.met.count("a place first named by another topic", other.into());
+            let alike = alike.filter(|(id, _)| *id == bucket.id).map(|(_, message)| *message);
+            let named = alike.clone().next().ok_or("a place that no message of the trace could have taken")?;
+            let published =
+                alike.clone().find(|message| message.publish).is_some_and(|first| first.topic != named.topic);
+            let other = alike.clone().any(|message| message.topic != named.topic);
+            self.met.count("a place first named by another type", published.into());
+            self.met.count("a place of more than one topic", other.into());
             self.name("place", &named.topic);
         }
         self.newcomer(taken);
@@ -255,9 +269,13 @@ impl Limit<'_> {
 
     /// The lines of a topic, if it meets the limiter, and what else is tried of it.
     fn topic(&mut self, topic: &[u8]) -> Result<(), String> {
-        let Some(rate) = tried::rate(self.monitor, topic, self.random) else { return Ok(()) };
-        let kind = if tried::holds(self.monitor, topic, self.random) { SPENT } else { NO_PLACE };
-        let from = tried::from(self.monitor, topic, self.last, self.random);
+        let Stand { kind, rate, from } = tried::stand(self.monitor, topic, self.last, self.random);
+        if matcher::STANDARD && self.rate_in_port(topic) != rate {
+            self.met.count(CHOSEN[usize::from(rate == 0)], 1);
+        }
+        if rate == 0 {
+            return Ok(());
+        }
         let tokens = tried::tokens(self.monitor, topic, self.last, SELDOM, self.random);
         self.name("topic", topic);
         write!(self.out, "rate={rate}\ntokens={tokens}\nkind={kind}\n").unwrap();
@@ -280,6 +298,16 @@ impl Limit<'_> {
         self.count_bucket(topic, rate, from);
         self.tries(topic, rate, kind, from)
             .map_err(|wrong| format!("the original, topic {}: {wrong}", topic.escape_ascii()))
+    }
+
+    /// The rate that the port's choice of a rule would give a topic, 0 for none.
+    fn rate_in_port(&self, topic: &[u8]) -> u16 {
+        if topic.is_empty() || opened::contains_invalid_publish_char(topic) {
+            return 0;
+        }
+        let mut rules = (0..self.monitor.rule_count()).filter_map(|place| state::rule(self.monitor, place));
+        let chosen = rules.find(|rule| opened::topic_matches(topic, &rule.pattern[..rule.pattern_len as usize]));
+        chosen.filter(|rule| rule.action == TopicAction::Allow).map_or(0, |rule| rule.rate)
     }
 
     /// Counts what a topic's bucket is.

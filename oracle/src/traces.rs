@@ -269,7 +269,7 @@ impl Run {
             class.agree();
         }
         self.classes.push(class);
-        for name in standing::ALL {
+        for name in standing::all() {
             self.standing.seen(name, self.met.times(name));
         }
     }

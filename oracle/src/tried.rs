@@ -13,7 +13,10 @@ pub const NO_PLACE: u32 = 6;
 /// Up to this rate all tokens are counted one by one.
 const COUNTED: u16 = 2000;
 
-/// What became of a Publish: whether it was allowed, and which of the limiter's kinds it raised, 0 for neither.
+/// Kinds that deny a Publish: those two, and an empty topic, a blocked one, and one with a zero byte or a wildcard.
+const DENYING: [u32; 5] = [SPENT, NO_PLACE, 2, 3, 9];
+
+/// What became of a Publish: whether it was allowed, and the kind that denied it, 0 for none.
 #[derive(Clone, Copy, Debug, PartialEq, Eq)]
 pub struct Tried {
     pub allowed: bool,
@@ -29,8 +32,8 @@ impl Tried {
 
     fn of(result: &MqttInspectResult) -> Tried {
         let mut alerts = result.alerts[..result.alert_count as usize].iter();
-        let limited = alerts.find(|alert| matches!(alert.source_id, SPENT | NO_PLACE));
-        Tried { allowed: result.allowed, kind: limited.map_or(0, |alert| alert.source_id) }
+        let denied = alerts.find(|alert| DENYING.contains(&alert.source_id));
+        Tried { allowed: result.allowed, kind: denied.map_or(0, |alert| alert.source_id) }
     }
 }
 
@@ -124,11 +127,49 @@ pub fn tokens(monitor: &MqttMonitor, topic: &[u8], at: u64, seldom: usize, rando
     passed
 }
 
-/// A copy with all that it has, but under one rule alone: one for this topic of plain letters.
-pub fn ruled(monitor: &MqttMonitor, topic: &[u8]) -> MqttMonitor {
+/// Where the limit stands for a topic.
+pub struct Stand {
+    /// The kind that denies it: before its time where it meets the limiter, else at any time; 0 where nothing denies it.
+    pub kind: u32,
+    /// The rate under which it meets the limiter, 0 where it does not.
+    pub rate: u16,
+    /// When it is allowed, if ever.
+    pub from: Option<u64>,
+}
+
+/// All of that; most answers lie near some time.
+pub fn stand(monitor: &MqttMonitor, topic: &[u8], near: u64, random: &mut Random) -> Stand {
+    if let Some(rate) = rate(monitor, topic, random) {
+        let kind = if holds(monitor, topic, random) { SPENT } else { NO_PLACE };
+        return Stand { kind, rate, from: from(monitor, topic, near, random) };
+    }
+    let [first, last] = [0, u64::MAX].map(|at| tried(monitor, topic, at, random));
+    assert_eq!(first, last, "without the limiter the time does not matter");
+    Stand { kind: first.kind, rate: 0, from: first.allowed.then_some(0) }
+}
+
+/// The live buckets in the order in which they give way to newcomers, which come one after another and are younger than
+/// all of them. Nothing where none can be younger, and a newcomer might have to give way itself.
+pub fn giving_way(monitor: &MqttMonitor, random: &mut Random) -> Option<Vec<Bucket>> {
+    let mut left: Vec<(usize, Bucket)> = (0..32).filter_map(|place| Some((place, live(monitor, place)?))).collect();
+    let latest = left.iter().map(|(_, bucket)| bucket.at).max().unwrap_or(0);
+    let now = latest.checked_add(1)?;
+    let (mut copy, mut gone) = (ruled(monitor, b"newcomer/+"), Vec::new());
+    let mut newcomers = 0..64;
+    while !left.is_empty() {
+        let name = format!("newcomer/{}", newcomers.next().expect("each newcomer takes a place"));
+        send(&mut copy, name.as_bytes(), now, random);
+        let taken = left.iter().position(|(place, bucket)| holder(&copy, *place).as_ref() != Some(&bucket.id));
+        gone.extend(taken.map(|taken| left.remove(taken).1));
+    }
+    Some(gone)
+}
+
+/// A copy with all that it has, but under one rule alone, which has this pattern.
+pub fn ruled(monitor: &MqttMonitor, pattern: &[u8]) -> MqttMonitor {
     let mut copy = state::copy(monitor);
     copy.clear_rules();
-    copy.add_rule(topic, TopicAction::Allow, QosPolicy::Any, 1).expect("a pattern");
+    copy.add_rule(pattern, TopicAction::Allow, QosPolicy::Any, 1).expect("a pattern");
     copy
 }
 
