@@ -148,6 +148,23 @@ pub fn stand(monitor: &MqttMonitor, topic: &[u8], near: u64, random: &mut Random
     Stand { kind: first.kind, rate: 0, from: first.allowed.then_some(0) }
 }
 
+/// What a Publish at a time leaves.
+pub struct Left {
+    /// The kind that denies it, 0 where it passes.
+    pub kind: u32,
+    /// The rate under which it meets the limiter, 0 where it does not.
+    pub rate: u16,
+    /// By a rate, how many more would pass at that time, one after the other.
+    pub tokens: u64,
+}
+
+/// All of that; all tokens of a high rate are sent once in `seldom` times.
+pub fn left(monitor: &MqttMonitor, topic: &[u8], at: u64, seldom: usize, random: &mut Random) -> Left {
+    let (kind, rate) = (tried(monitor, topic, at, random).kind, rate(monitor, topic, random).unwrap_or(0));
+    let passed = if rate > 0 { tokens(monitor, topic, at, seldom, random) } else { 0 };
+    Left { kind, rate, tokens: passed.saturating_sub(1) }
+}
+
 /// The live buckets in the order in which they give way to newcomers, which come one after another and are younger than
 /// all of them. Nothing where none can be younger, and a newcomer might have to give way itself.
 pub fn giving_way(monitor: &MqttMonitor, random: &mut Random) -> Option<Vec<Bucket>> {
