@@ -3,6 +3,7 @@
 
 use crate::make::{BROKEN, EDGES};
 use crate::scenes::{CONNECT, Maker, PUBLISH, SUBSCRIBE, Scene, allow};
+use trace::LONGEST;
 
 pub const MAKERS: &[Maker] = &[
     (
@@ -32,6 +33,29 @@ pub const MAKERS: &[Maker] = &[
         ],
     ),
 ];
+
+/// Traces of the longest length, or just below it, with as many topics as have room: short ones, the longest, and short ones
+/// whose times have as many digits as there are. Under one rate, or under the highest, which has the longest numbers.
+pub fn crowds() -> Vec<Vec<u8>> {
+    let ways = [(2, 0), (2, u64::MAX), (128, 0), (3, u64::MAX - 400_000_000)];
+    let texts = ways.into_iter().flat_map(|way| [(way, 1), (way, 65_535)]);
+    texts
+        .map(|((bytes, at), rate)| {
+            let mut text = format!("default=allow\nrules=1\npattern=23\naction=allow\nqos=any\nrate={rate}\n");
+            for topic in 0.. {
+                // Two digits of base 200 from byte 48 on, which none of the limiter's signs has; the rest is one letter.
+                let (high, low) = (48 + topic / 200, 48 + topic % 200);
+                let name = format!("{high:02x}{low:02x}{}", "61".repeat(bytes - 2));
+                let more = format!("at={at}\nclock=ok\ntype=3\nqos=0\ntopic={name}\nsize=0\npayload=\n");
+                if text.len() + more.len() > LONGEST {
+                    break;
+                }
+                text += &more;
+            }
+            text.into_bytes()
+        })
+        .collect()
+}
 
 /// Characters around those that a person cannot see: U+0000 to U+001F and U+007F to U+009F.
 const NEAR_CONTROLS: [&str; 10] = ["\t", "\n", "\u{1f}", " ", "~", "\u{7f}", "\u{80}", "\u{9f}", "\u{a0}", "caf\u{e9}"];

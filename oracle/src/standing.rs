@@ -78,6 +78,9 @@ pub fn all() -> impl Iterator<Item = &'static str> {
     ALL.into_iter().chain(CHOSEN.into_iter().filter(|_| matcher::STANDARD))
 }
 
+/// Room for the text after any trace, as include/hub.h says.
+const ENOUGH: usize = 786_432;
+
 /// A message, as far as it says where the limit stands.
 struct Message {
     publish: bool,
@@ -106,13 +109,16 @@ pub fn wrong(text: &[u8], met: &mut Met) -> Option<String> {
 /// The whole text into a buffer with `spare` bytes too many, and into ones that are too short.
 fn answered(text: &[u8], end: End, expected: &[u8], spare: usize, met: &mut Met) -> Result<(), String> {
     let length = expected.len();
+    if length > ENOUGH {
+        return Err(format!("{length} bytes, more than are said to be enough"));
+    }
     let wanted = HubTrace { number: end.number, line: end.line.into(), length };
     let mut room = vec![0xa5; length + spare];
     let answer = HUB_STANDING(text, &mut room);
     if answer != wanted || room[..length] != *expected {
-        let mut room = vec![0xa5; 1 << 20];
+        let mut room = vec![0xa5; ENOUGH];
         let answer = HUB_STANDING(text, &mut room);
-        let said = String::from_utf8_lossy(&room[..answer.length.min(1 << 20)]).into_owned();
+        let said = String::from_utf8_lossy(&room[..answer.length.min(ENOUGH)]).into_owned();
         let expected = String::from_utf8_lossy(expected);
         return Err(format!("hub {answer:?}, expected {wanted:?}; {}", first_apart(&said, &expected)));
     }

@@ -54,6 +54,7 @@ fn main() {
     let mut run = Run { met: Met::default(), standing, classes: Vec::new() };
     run.example();
     run.odd_patterns(&pairs);
+    run.crowds();
     for seed in seeds {
         let mut random = Random(seed);
         for maker in MAKERS.iter().chain([&APART]).chain(limits::MAKERS) {
@@ -107,6 +108,13 @@ impl Run {
         for (what, before) in ends.iter().zip(before) {
             class.seen(what, self.met.times(what) - before);
         }
+        self.classes.push(class);
+    }
+
+    /// As many topics as a text has room for.
+    fn crowds(&mut self) {
+        let mut class = Class::new("as many topics as a text has room for");
+        limits::crowds().iter().for_each(|text| self.compare(&mut class, text, 0));
         self.classes.push(class);
     }
 
