@@ -27,7 +27,7 @@ const SOME: usize = 6;
 const CHOSEN: [&str; 2] = ["a rate that the port would not give", "no rate, and the port would give one"];
 
 /// What all traces together must have met.
-const ALL: [&str; 43] = [
+const ALL: [&str; 44] = [
     "standing texts",
     "refused before a message",
     "refused behind messages",
@@ -70,6 +70,7 @@ const ALL: [&str; 43] = [
     "denied by 5 and tried again",
     "denied by 6 and tried again",
     "searched again after a try",
+    "room that is just enough",
     "room too short",
 ];
 
@@ -102,17 +103,18 @@ pub fn wrong(text: &[u8], met: &mut Met) -> Option<String> {
     met.count("whole without a message", (end.number == 0 && messages.is_empty()).into());
     let mut limit = Limit { monitor: &monitor, last, messages: &messages, met, random, out: String::new() };
     let found = limit.text();
-    let (expected, spare) = (limit.out, random.below(3) * random.below(100));
-    found.err().or_else(|| answered(text, end, expected.as_bytes(), spare, met).err())
+    let expected = limit.out;
+    found.err().or_else(|| answered(text, end, expected.as_bytes(), met, random).err())
 }
 
-/// The whole text into a buffer with `spare` bytes too many, and into ones that are too short.
-fn answered(text: &[u8], end: End, expected: &[u8], spare: usize, met: &mut Met) -> Result<(), String> {
-    let length = expected.len();
+/// The whole text into a buffer that it fills, or with some bytes too many, and into ones that are too short.
+fn answered(text: &[u8], end: End, expected: &[u8], met: &mut Met, random: &mut Random) -> Result<(), String> {
+    let (length, spare) = (expected.len(), random.below(3) * random.below(100));
     if length > ENOUGH {
         return Err(format!("{length} bytes, more than are said to be enough"));
     }
     let wanted = HubTrace { number: end.number, line: end.line.into(), length };
+    met.count("room that is just enough", (spare == 0).into());
     let mut room = vec![0xa5; length + spare];
     let answer = HUB_STANDING(text, &mut room);
     if answer != wanted || room[..length] != *expected {
@@ -125,7 +127,9 @@ fn answered(text: &[u8], end: End, expected: &[u8], spare: usize, met: &mut Met)
     if room[length..].iter().any(|&byte| byte != 0xa5) {
         return Err("bytes behind the text were changed".into());
     }
-    for short in [length - 1, length / 2, 0] {
+    // The longest room that is too short, seldom others: the port reads the whole text to say so.
+    let shorter = [length - 1, length / 2, 0];
+    for &short in &shorter[..if random.one_in(SOME) { 3 } else { 1 }] {
         let mut room = vec![0xa5; length];
         let answer = HUB_STANDING(text, &mut room[..short]);
         if answer != (HubTrace { number: 28, line: 0, length: 0 }) || room.iter().any(|&byte| byte != 0xa5) {
