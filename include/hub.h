@@ -1,6 +1,8 @@
 /* hub.h: the hub's message monitor for callers in C11 and C++11. Link target/staticlib/libhub.a, which `rt staticlib
- * hub` proves and writes. The archive is for x86-64 Linux (ELF, System V calls), as position-independent code; besides
- * the functions below it needs memcpy and memset. bin/header holds this file and the archive to each other.
+ * hub` proves and writes; for the calls whose names begin with hub_standing, which are for a support desk and not for the
+ * part, libdesk.a, which `rt staticlib desk` writes. Each is for x86-64 Linux (ELF, System V calls), as
+ * position-independent code; besides the functions below it needs memcpy and memset. bin/header holds this file and the
+ * archives to each other.
  *
  * The caller's duties, for every function here:
  * - a pointer is not null, also where the length beside it is 0;
@@ -14,8 +16,8 @@
  * any thread. A bool is 0 or 1.
  *
  * Stack, in bytes below the caller, by measurement (rattle-kit-5b, x86-64; `bin/measure stack` measures again): those of
- * the standing reach 78,120, those of traces 25,698, every other call at most 256, less not being told apart. Whole, cut
- * and damaged traces were tried; by the disassembly no function of the archive calls itself, no frame grows with its
+ * the standing reach 82,392, those of traces 30,258, every other call at most 256, less not being told apart. Whole, cut
+ * and damaged traces were tried; by the disassembly no function of the archives calls itself, no frame grows with its
  * input, and the frames add up to no more. */
 #ifndef HUB_H
 #define HUB_H

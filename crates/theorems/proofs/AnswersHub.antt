@@ -35,10 +35,6 @@ use Rattle.hub.proofs.tracing.hub_trace_standard as tracing-hub-trace-standard
 use Rattle.hub.proofs.tracing.hub_trace_standard.Reads as tracing-hub-trace-standard-reads
 use Rattle.hub.proofs.tracing.hub_trace_standard_length as tracing-hub-trace-standard-length
 use Rattle.hub.proofs.tracing.hub_trace_standard_length.Reads as tracing-hub-trace-standard-length-reads
-use Rattle.hub.proofs.standing.hub_standing as standing-hub-standing
-use Rattle.hub.proofs.standing.hub_standing.Reads as standing-hub-standing-reads
-use Rattle.hub.proofs.standing.hub_standing_standard as standing-hub-standing-standard
-use Rattle.hub.proofs.standing.hub_standing_standard.Reads as standing-hub-standing-standard-reads
 use Rattle.theorems.specs.One.{Any, One, OneLeft}
 
 pub one-hashing-hub-fnv1a-hash : One hashing-hub-fnv1a-hash.ended hashing-hub-fnv1a-hash-reads.Post
@@ -142,15 +138,3 @@ one-matching-hub-is-utf8 κs a x y e f p q = p ∙ sym q
 
 pub any-matching-hub-is-utf8 : Any matching-hub-is-utf8.ended matching-hub-is-utf8-reads.Asked
 any-matching-hub-is-utf8 κs a = tt
-
-pub one-standing-hub-standing : OneLeft standing-hub-standing.ended standing-hub-standing-reads.Post (λ κs e. now (e .1 .0))
-one-standing-hub-standing κs a x y e f p q = (p .0 ∙ sym (q .0), p .1 ∙ sym (q .1))
-
-pub any-standing-hub-standing : Any standing-hub-standing.ended standing-hub-standing-reads.Asked
-any-standing-hub-standing κs a = tt
-
-pub one-standing-hub-standing-standard : OneLeft standing-hub-standing-standard.ended standing-hub-standing-standard-reads.Post (λ κs e. now (e .1 .0))
-one-standing-hub-standing-standard κs a x y e f p q = (p .0 ∙ sym (q .0), p .1 ∙ sym (q .1))
-
-pub any-standing-hub-standing-standard : Any standing-hub-standing-standard.ended standing-hub-standing-standard-reads.Asked
-any-standing-hub-standing-standard κs a = tt
