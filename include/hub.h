@@ -1,21 +1,24 @@
 /* hub.h: the hub's message monitor for callers in C11 and C++11. Link target/staticlib/libhub.a, which `rt staticlib
- * hub` proves and writes. The archive is for x86-64 Linux (ELF, System V calls), as position-independent code; besides
- * the functions below it needs memcpy and memset. bin/header holds this file and the archive to each other.
+ * hub` proves and writes; for the calls whose names begin with hub_standing, which are for a support desk and not for the
+ * part, libdesk.a, which `rt staticlib desk` writes. Each is for x86-64 Linux (ELF, System V calls), as
+ * position-independent code; besides the functions below it needs memcpy and memset. bin/header holds this file and the
+ * archives to each other.
  *
  * The caller's duties, for every function here:
  * - a pointer is not null, also where the length beside it is 0;
  * - a length is at most PTRDIFF_MAX and lies within the object that its pointer points into;
  * - the bytes that are read are initialised, and nothing changes them during the call; `out` need not be initialised;
  * - what a function writes to overlaps no other argument, and nothing else reads or writes it during the call;
- * - there is room on the stack: 48 KiB for a call whose name begins with hub_trace, 1 KiB for any other (see below).
+ * - there is room on the stack: 96 KiB for a call whose name begins with hub_standing, 48 KiB for one whose name begins
+ *   with hub_trace, 1 KiB for any other (see below).
  *
  * Each call then returns, allocates nothing, keeps no pointer and has no state: equal arguments give equal answers, on
  * any thread. A bool is 0 or 1.
  *
  * Stack, in bytes below the caller, by measurement (rattle-kit-5b, x86-64; `bin/measure stack` measures again): those of
- * traces reach 30,258, and reached 39,490 before change request C-17; every other call at most 256, less not being told
- * apart. Whole, cut and damaged traces were tried; by the disassembly
- * no function of the archive calls itself, no frame grows with its input, and the frames add up to no more. */
+ * the standing reach 82,392, those of traces 30,258, every other call at most 256, less not being told apart. Whole, cut
+ * and damaged traces were tried; by the disassembly no function of the archives calls itself, no frame grows with its
+ * input, and the frames add up to no more. */
 #ifndef HUB_H
 #define HUB_H
 
@@ -119,8 +122,8 @@ struct HubTrace hub_trace_standard_length(const uint8_t *text, size_t text_len);
  * hub_trace_standard, where they are asked for. They go to the front of `out`, and the rest of it is left as it was.
  * `number` and `line` say how the trace ended, as there; `length` is how many bytes these lines have. An `out` that they
  * do not fit into is refused with 28, line 0, length 0 and nothing written; one of HUB_TRACE_ENOUGH bytes always does
- * (proved). A message whose topic is named late is looked for in the whole text, so the time grows with the square of
- * the messages (docs/MEASURED.md). */
+ * (proved). Each message's topic is looked for in the rest of the text, so the time grows with the square of the
+ * messages: a tenth of a second for a text full of them (docs/MEASURED.md). */
 struct HubTrace hub_standing(const uint8_t *text, size_t text_len, uint8_t *out, size_t out_len);
 struct HubTrace hub_standing_standard(const uint8_t *text, size_t text_len, uint8_t *out, size_t out_len);
 

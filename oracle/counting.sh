@@ -11,14 +11,15 @@ original() {
     touch "$room/built"
 }
 
-# host [--lto] NAME: builds a program of oracle/src over the original and the archive of hub, which is proved once a run.
+# host [--lto] NAME: builds a program of oracle/src over the original and the archives of hub and desk, which are proved once a run.
 host() {
     original
     if [ -z "${HUB_ARCHIVE-}" ]; then
         rt staticlib hub >&2
+        rt staticlib desk >&2
         HUB_ARCHIVE=$root/target/staticlib
     fi
-    oracle/host "$@" "$HUB_ARCHIVE"
+    oracle/host "$@" "$HUB_ARCHIVE" hub desk
 }
 
 # The traces that we measure with, in $room/traces.

@@ -152,11 +152,28 @@ static void choosing(void) {
                                hub_trace_standard_length(BYTES(dollar)).length == sizeof denied - 1);
 }
 
+/* Where the limit stands after document 01's trace: one place is taken, and the topic passes again half a second later. */
+static void standing(TraceCall *stands) {
+    static const char lines[] = "last=1500000\ntaken=1\nplace=6d2f61\ntext=m/a\nnew=0\nwait=0.000000\n"
+                                "topic=6d2f61\ntext=m/a\nrate=1\ntokens=0\nkind=5\nfrom=2000000\nwait=0.500000\n";
+    static const char fresh[] = "last=0\ntaken=0\nnew=0\nwait=0.000000\n";
+    const size_t length = sizeof lines - 1;
+    memset(room, 0xa5, sizeof room);
+    holds("28 where the room for the standing is a byte too short", ended(stands(BYTES(text), room, length - 1), 28, 0, 0));
+    holds("28 writes nothing of it", untouched(0));
+    holds("how that trace ends", ended(stands(BYTES(text), room, length), 0, 20, length));
+    holds("where the limit stands", memcmp(room, lines, length) == 0 && untouched(length));
+    holds("an empty text leaves a fresh hub", ended(stands(BYTES(""), room, sizeof room), 26, 1, sizeof fresh - 1));
+    holds("where its limit stands", memcmp(room, fresh, sizeof fresh - 1) == 0);
+}
+
 int main(void) {
     matching();
     hashing();
     tracing(hub_trace, hub_trace_length);
     tracing(hub_trace_standard, hub_trace_standard_length);
+    standing(hub_standing);
+    standing(hub_standing_standard);
     choosing();
     printf("%d passed, %d failed\n", passed, failed);
     return failed != 0;

@@ -58,6 +58,24 @@ pub mod state {
         pub last_seen: u64,
     }
 
+    /// What tells a topic from others, as a bucket or tracker of it would have it.
+    pub fn identity(topic: &[u8]) -> Id {
+        let first = topic.len().min(32);
+        Id {
+            hash: super::fnv1a_hash(topic),
+            hash2: super::djb2_hash(topic),
+            len: topic.len() as u16,
+            suffix_hash: super::suffix_hash(topic),
+            prefix_len: first as u8,
+            prefix: MqttMonitor::make_topic_prefix(topic),
+        }
+    }
+
+    /// A monitor like another: something can be tried on it, and the other stays as it is.
+    pub fn copy(monitor: &MqttMonitor) -> MqttMonitor {
+        MqttMonitor { ..*monitor }
+    }
+
     /// What stands in no table: default, CONNECT threshold and window, next id.
     pub fn settings(monitor: &MqttMonitor) -> (TopicAction, u8, u64, u64) {
         let m = monitor;

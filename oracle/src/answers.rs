@@ -3,14 +3,17 @@
 //! out, 9 for a lent topic or payload shorter than the part used, 36 for a pattern that is not UTF-8 (`trace::rules`),
 //! zeros behind the pattern of a rule that is added, and a bucket's step with its remainder (oracle/opened/kept.rs);
 //! docs/DIFFERENCES.md has them all. A line that is not understood, or a field that there is not, ends the program; so
-//! does a constructor of monitors that choose rules by another matcher than the original that this is built over.
+//! does a constructor of monitors that choose rules by another matcher than the original that this is built over. Where
+//! the limit stands is no call of the original: it is found out by trying on copies (tried.rs).
 
+use crate::tally::Random;
+use crate::tried::{self, Left, Stand};
 use std::fmt::{Display, Formatter, Result as Written};
 use trace::rules::{add_rule, refusal};
 use vs_mqtt_monitor::state::{self, Id};
 use vs_mqtt_monitor::{MqttInspectResult, MqttMonitor, QosPolicy, TopicAction, matcher};
 use vs_types::VsError;
-use vs_types_embedded::{MonitorReset, MqttMessage, MqttPacketType, MqttQoS, opened};
+use vs_types_embedded::{MonitorReset, MqttMessage, MqttPacketType, MqttQoS, fnv1a_hash, opened};
 
 /// The constructors, and the word for the matcher of what they make.
 pub const NEW: &str = if matcher::STANDARD { "new_standard" } else { "new" };
@@ -36,6 +39,12 @@ const RECORD_FIELDS: [&str; 12] = [
     "window_next",
 ];
 
+/// The longest topic that a message has.
+const TOPIC_MAX: usize = 128;
+
+/// By a high rate all tokens are sent once in so many times.
+const SELDOM: usize = 50;
+
 /// The tables that a script may look at, with their places.
 const TABLES: [(&str, usize); 4] = [("rules", 32), ("buckets", 32), ("trackers", 16), ("windows", 16)];
 
@@ -45,6 +54,8 @@ pub enum Answer {
     Done(u16),
     Refused(u32),
     Inspected(MqttMessage, MqttInspectResult),
+    Stands(Stand),
+    Left(Left),
 }
 
 impl Display for Answer {
@@ -53,6 +64,11 @@ impl Display for Answer {
             Answer::Text(text) => write!(out, "{text}"),
             Answer::Done(number) => write!(out, " done={number}"),
             Answer::Refused(number) => write!(out, " refused={number}"),
+            Answer::Stands(Stand { kind, rate, from }) => {
+                let from = from.map_or("never".into(), |from| from.to_string());
+                write!(out, " kind={kind} rate={rate} from={from}")
+            }
+            Answer::Left(Left { kind, rate, tokens }) => write!(out, " kind={kind} rate={rate} tokens={tokens}"),
             Answer::Inspected(_, result) => {
                 write!(out, " allowed={} alerts={}", result.allowed as u8, result.alert_count)?;
                 for (place, alert) in result.alerts[..result.alert_count as usize].iter().enumerate() {
@@ -206,6 +222,8 @@ impl Original {
                 monitor.reset_state();
                 Ok(0)
             }
+            "standing" => return stands(monitor, &args.bytes(0), None),
+            "tokens_left" => return stands(monitor, &args.bytes(0), Some(args.number(1))),
             "inspect" | "inspect_claimed" => return inspect(monitor, name == "inspect_claimed", args),
             _ => panic!("not understood: {name}"),
         };
@@ -221,6 +239,19 @@ impl Original {
         }
         result.map_or_else(Answer::Refused, Answer::Done)
     }
+}
+
+/// Where the limit stands for a topic, or what a Publish of it would leave at a time.
+fn stands(monitor: &MqttMonitor, topic: &[u8], at: Option<u64>) -> Answer {
+    if topic.len() > TOPIC_MAX {
+        return Err(VsError::InvalidInput).into();
+    }
+    let random = &mut Random(fnv1a_hash(topic).into());
+    if let Some(at) = at {
+        return Answer::Left(tried::left(monitor, topic, at, SELDOM, random));
+    }
+    let latest = (0..32).filter_map(|place| tried::live(monitor, place)).map(|bucket| bucket.at).max();
+    Answer::Stands(tried::stand(monitor, topic, latest.unwrap_or(0), random))
 }
 
 /// A message: its result with every alert.

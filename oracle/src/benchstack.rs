@@ -38,6 +38,9 @@ fn main() {
     row("hub_standard_matches", || pairs(|name, pattern| _ = black_box(hub::standard_matches(name, pattern))));
     trace_rows("hub_trace", hub::trace, hub::trace_length, &traces);
     trace_rows("hub_trace_standard", hub::trace_standard, hub::trace_standard_length, &traces);
+    let mut room = vec![0; ENOUGH];
+    row("hub_standing", || traces.iter().for_each(|text| _ = hub::standing(text, &mut room)));
+    row("hub_standing_standard", || traces.iter().for_each(|text| _ = hub::standing_standard(text, &mut room)));
 }
 
 /// The rows of a matcher's two calls.

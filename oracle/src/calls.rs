@@ -2,6 +2,8 @@
 //! port.
 
 mod answers;
+mod tally;
+mod tried;
 
 use answers::Original;
 use std::io::{Read, stdin};

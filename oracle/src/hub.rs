@@ -41,6 +41,8 @@ mod raw {
         pub fn hub_trace_length(text: *const u8, text_len: usize) -> HubTrace;
         pub fn hub_trace_standard(text: *const u8, text_len: usize, out: *mut u8, out_len: usize) -> HubTrace;
         pub fn hub_trace_standard_length(text: *const u8, text_len: usize) -> HubTrace;
+        pub fn hub_standing(text: *const u8, text_len: usize, out: *mut u8, out_len: usize) -> HubTrace;
+        pub fn hub_standing_standard(text: *const u8, text_len: usize, out: *mut u8, out_len: usize) -> HubTrace;
     }
 }
 
@@ -146,4 +148,17 @@ pub fn trace_standard(text: &[u8], out: &mut [u8]) -> HubTrace {
 #[inline]
 pub fn trace_standard_length(text: &[u8]) -> HubTrace {
     unsafe { raw::hub_trace_standard_length(text.as_ptr(), text.len()) }
+}
+
+/// Where the limit stands after a trace's messages, into the front of `out`; its number and line are those of `trace`.
+/// Refuses an `out` that is too short with 28, line 0 and nothing written.
+#[inline]
+pub fn standing(text: &[u8], out: &mut [u8]) -> HubTrace {
+    unsafe { raw::hub_standing(text.as_ptr(), text.len(), out.as_mut_ptr(), out.len()) }
+}
+
+/// `standing` of a monitor that chooses rules by MQTT 3.1.1. Refuses what `standing` does.
+#[inline]
+pub fn standing_standard(text: &[u8], out: &mut [u8]) -> HubTrace {
+    unsafe { raw::hub_standing_standard(text.as_ptr(), text.len(), out.as_mut_ptr(), out.len()) }
 }

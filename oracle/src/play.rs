@@ -3,11 +3,12 @@
 
 use crate::answers::{Answer, NEW, NEW_DENY_DEFAULT, Original, no_call_hands_out};
 use crate::met::{KINDS, Met, PLACES, STEPS, buckets, choices};
+use crate::tried::{Left, Stand};
 use std::panic::{AssertUnwindSafe, catch_unwind};
 use vs_mqtt_monitor::{opened, state};
 
 /// Every public call of the monitor. `inspect_claimed` is `inspect` with claimed lengths, `counters` are three calls.
-const CALLS: [&str; 14] = [
+const CALLS: [&str; 16] = [
     NEW,
     NEW_DENY_DEFAULT,
     "add_rule",
@@ -22,6 +23,8 @@ const CALLS: [&str; 14] = [
     "remove_ewma_tracker",
     "reset_state",
     "counters",
+    "standing",
+    "tokens_left",
 ];
 
 const TYPES: [&str; 15] = [
@@ -30,7 +33,7 @@ const TYPES: [&str; 15] = [
 ];
 
 /// Every refusal that documents 01 and 02 have of each call.
-const REFUSALS: [&str; 19] = [
+const REFUSALS: [&str; 23] = [
     "add_rule refused 6",
     "add_rule refused 9",
     "add_rule refused 36",
@@ -50,6 +53,32 @@ const REFUSALS: [&str; 19] = [
     "remove_rate_bucket refused 10",
     "remove_ewma_tracker refused 10",
     "reset_state refused 10",
+    "standing refused 9",
+    "standing refused 10",
+    "tokens_left refused 9",
+    "tokens_left refused 10",
+];
+
+/// Where the limit stood when a script asked for it, and what a message would have left.
+pub const STANDS: [&str; 18] = [
+    "stands: denied by 2",
+    "stands: denied by 3",
+    "stands: denied by 9",
+    "stands: no limiter",
+    "stands: held, a token left",
+    "stands: held, later",
+    "stands: held, never",
+    "stands: new, a place free",
+    "stands: new, later",
+    "stands: new, never",
+    "left: no limiter",
+    "left: denied by 5",
+    "left: denied by 6",
+    "left: denied by another",
+    "left: nothing",
+    "left: one token",
+    "left: more",
+    "left: all but one of a rate",
 ];
 
 /// Why a state is refused with 10.
@@ -94,7 +123,7 @@ const MORE: [&str; 22] = [
 pub fn all() -> impl Iterator<Item = &'static str> {
     let kinds = KINDS[1..].iter().copied();
     let calls = CALLS.into_iter().chain(TYPES).chain(REFUSALS).chain(REASONS);
-    calls.chain(kinds).chain(PLACES).chain(STEPS).chain(MORE).chain(choices())
+    calls.chain(STANDS).chain(kinds).chain(PLACES).chain(STEPS).chain(MORE).chain(choices())
 }
 
 /// A script on its way.
@@ -148,6 +177,34 @@ impl Play<'_> {
                     self.met.count(reason, 1);
                 }
             }
+            Answer::Stands(Stand { kind, rate, from }) => self.met.count(
+                match (kind, from) {
+                    (2, _) => "stands: denied by 2",
+                    (3, _) => "stands: denied by 3",
+                    (9, _) => "stands: denied by 9",
+                    _ if *rate == 0 => "stands: no limiter",
+                    (5, Some(0)) => "stands: held, a token left",
+                    (5, Some(_)) => "stands: held, later",
+                    (5, None) => "stands: held, never",
+                    (_, Some(0)) => "stands: new, a place free",
+                    (_, Some(_)) => "stands: new, later",
+                    (_, None) => "stands: new, never",
+                },
+                1,
+            ),
+            Answer::Left(Left { kind, rate, tokens }) if *rate > 0 => {
+                let what = match (kind, tokens) {
+                    (0, 0) => "left: nothing",
+                    (0, 1) => "left: one token",
+                    (0, _) => "left: more",
+                    (5, _) => "left: denied by 5",
+                    _ => "left: denied by 6",
+                };
+                self.met.count(what, 1);
+                self.met.count("left: all but one of a rate", (kind == &0 && tokens + 1 == u64::from(*rate)).into());
+            }
+            Answer::Left(Left { kind: 0, .. }) => self.met.count("left: no limiter", 1),
+            Answer::Left(_) => self.met.count("left: denied by another", 1),
             Answer::Inspected(message, result) => {
                 self.met.count(TYPES[message.packet_type as usize - 1], 1);
                 self.met.count("clock back", (message.timestamp_us < self.last_at).into());

@@ -9,9 +9,9 @@ use std::io::Write;
 use trace::LONGEST;
 use trace::rules::refusal;
 
-const CONNECT: u8 = 1;
-const PUBLISH: u8 = 3;
-const SUBSCRIBE: u8 = 8;
+pub const CONNECT: u8 = 1;
+pub const PUBLISH: u8 = 3;
+pub const SUBSCRIBE: u8 = 8;
 const UNSUBSCRIBE: u8 = 10;
 const POLICIES: [&str; 7] = ["any", "min0", "min1", "min2", "only0", "only1", "only2"];
 
@@ -63,14 +63,14 @@ pub struct Scene<'a> {
     text: Vec<u8>,
 }
 
-struct Rule {
+pub struct Rule {
     pattern: Vec<u8>,
     block: bool,
     qos: &'static str,
     rate: u16,
 }
 
-fn allow(pattern: &[u8], rate: u16) -> Rule {
+pub fn allow(pattern: &[u8], rate: u16) -> Rule {
     Rule { pattern: pattern.to_vec(), block: false, qos: "any", rate }
 }
 
@@ -127,7 +127,7 @@ pub fn odd_patterns(pairs: &Pairs) -> Vec<Vec<u8>> {
 
 impl Scene<'_> {
     /// Writes the opening; the default is block once in `blocks` times, never for 0.
-    fn opening(&mut self, blocks: usize, rules: &[Rule]) {
+    pub fn opening(&mut self, blocks: usize, rules: &[Rule]) {
         let word = |block| if block { "block" } else { "allow" };
         let block = blocks > 0 && self.random.one_in(blocks);
         write!(self.text, "default={}\nrules={}\n", word(block), rules.len()).unwrap();
@@ -138,7 +138,7 @@ impl Scene<'_> {
     }
 
     /// Adds a message, unless the text would grow too long; then no more follow.
-    fn message(&mut self, kind: u8, at: u64, topic: &[u8], size: u16, payload: &[u8]) {
+    pub fn message(&mut self, kind: u8, at: u64, topic: &[u8], size: u16, payload: &[u8]) {
         let good = match &mut self.clock {
             Some(clock) => clock.validate(at),
             None => !self.random.one_in(16),
@@ -153,7 +153,7 @@ impl Scene<'_> {
         }
     }
 
-    fn publish(&mut self, at: u64, topic: &[u8]) {
+    pub fn publish(&mut self, at: u64, topic: &[u8]) {
         let size = self.random.pick(&[0, 0, 1, 65_535]);
         self.message(PUBLISH, at, topic, size, b"");
     }

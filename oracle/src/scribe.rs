@@ -2,12 +2,15 @@
 //! that it can aim at the state: at the end of a bucket or a window, at a tracker's threshold, at a full table. What
 //! the scripts then really met is counted by the comparison, and `MAKERS` names what each maker must have met.
 
+mod asks;
+
 use crate::answers::{NEW, NEW_DENY_DEFAULT, hex};
 use crate::make::{BROKEN, LIKE_NOBODY, among, pattern};
 use crate::met::Met;
 use crate::pairs::{Pairs, reblocked};
 use crate::play::Play;
 use crate::tally::Random;
+use asks::{ask_standing, ask_tokens};
 use vs_mqtt_monitor::{MqttMonitor, state};
 use vs_types_embedded::fnv1a_hash;
 
@@ -69,6 +72,7 @@ pub const MAKERS: &[Maker] = &[
         removals,
         &["bucket removed", "bucket replaced", "kind 5", "kind 6", "remove_rate_bucket refused 7"],
     ),
+    asks::STANDING,
 ];
 
 /// One script of a maker.
@@ -352,7 +356,7 @@ fn anew(scribe: &mut Scribe) {
 }
 
 /// Every call that a state may be refused to.
-const CHANGES: [Turn; 13] = [
+const CHANGES: [Turn; 15] = [
     add_rule,
     remove_rule,
     swap_rules,
@@ -366,6 +370,8 @@ const CHANGES: [Turn; 13] = [
     remove_bucket,
     remove_tracker,
     reset,
+    ask_standing,
+    ask_tokens,
 ];
 
 fn every_call(scribe: &mut Scribe) {
@@ -416,6 +422,8 @@ fn buckets(scribe: &mut Scribe) {
     scribe.turns(&[
         (12, publish),
         (3, publish_at_expiry),
+        (3, ask_standing),
+        (3, ask_tokens),
         (1, remove_bucket),
         (1, add_rule),
         (1, swap_rules),
@@ -719,6 +727,8 @@ fn removals(scribe: &mut Scribe) {
             (1, set_storm),
             (1, validate_rules),
             (1, ask_counters),
+            (1, ask_standing),
+            (1, ask_tokens),
         ],
     );
 }

@@ -11,6 +11,7 @@ mod play;
 mod said;
 mod scribe;
 mod tally;
+mod tried;
 mod windows;
 
 use met::Met;

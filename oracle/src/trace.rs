@@ -28,11 +28,20 @@ pub fn run(text: &[u8], out: &mut Vec<u8>) -> End {
 pub fn run_watched(
     text: &[u8],
     out: &mut Vec<u8>,
+    watch: impl FnMut(&MqttMonitor, &MqttMessage, &MqttInspectResult),
+) -> End {
+    run_on(&mut MqttMonitor::new(), text, out, watch)
+}
+
+/// The same on a fresh monitor that is lent, and left as the messages leave it.
+pub fn run_on(
+    monitor: &mut MqttMonitor,
+    text: &[u8],
+    out: &mut Vec<u8>,
     mut watch: impl FnMut(&MqttMonitor, &MqttMessage, &MqttInspectResult),
 ) -> End {
     let mut reader = Reader { text, at: 0, line: 0 };
-    let mut monitor = MqttMonitor::new();
-    let number = match messages(&mut reader, &mut monitor, out, &mut watch) {
+    let number = match messages(&mut reader, monitor, out, &mut watch) {
         Ok(()) => 0,
         Err(number) => number,
     };

@@ -2,20 +2,24 @@
 //! monitor, every byte of every answer. What the traces met is counted; anything that was never met is a failure. A
 //! bucket's step is that of request C-17; the original with its own step still decides traces on which both must agree,
 //! and must answer some others otherwise. Over an original that chooses rules by MQTT 3.1.1 it is `hub_trace_standard`
-//! that is compared, and none has its own step.
+//! that is compared, and none has its own step. After each trace, where the limit stands is compared too (standing.rs).
 
 mod damage;
 mod hub;
+mod limits;
 mod make;
 mod met;
 mod pairs;
 mod scenes;
+mod standing;
 mod tally;
+mod tried;
 
 use hub::HubTrace;
 use met::Met;
 use pairs::Pairs;
 use scenes::{APART, CLOCK, GUIDERS, MAKERS, MARKS, Maker, NIGHT};
+use std::fmt::Display;
 use tally::{Class, Random};
 use trace::End;
 use vs_mqtt_monitor::matcher::STANDARD;
@@ -46,12 +50,14 @@ fn main() {
     let words: Vec<String> = std::env::args().skip(1).collect();
     let seeds = tally::seeds(&words);
     let pairs = Pairs::search();
-    let mut run = Run { met: Met::default(), classes: Vec::new() };
+    let standing = Class::new("where the limit stands after each of these traces");
+    let mut run = Run { met: Met::default(), standing, classes: Vec::new() };
     run.example();
     run.odd_patterns(&pairs);
+    run.crowds();
     for seed in seeds {
         let mut random = Random(seed);
-        for maker in MAKERS.iter().chain([&APART]) {
+        for maker in MAKERS.iter().chain([&APART]).chain(limits::MAKERS) {
             run.scene(maker, seed, &mut random, &pairs);
         }
         run.clock(seed, &mut random, &pairs);
@@ -65,6 +71,7 @@ fn main() {
         run.smallest();
     }
     run.met();
+    run.classes.push(run.standing);
     if !tally::report(&run.classes) {
         std::process::exit(1);
     }
@@ -73,6 +80,7 @@ fn main() {
 /// The classes so far, and how often each thing was met.
 struct Run {
     met: Met,
+    standing: Class,
     classes: Vec<Class>,
 }
 
@@ -100,6 +108,13 @@ impl Run {
         for (what, before) in ends.iter().zip(before) {
             class.seen(what, self.met.times(what) - before);
         }
+        self.classes.push(class);
+    }
+
+    /// As many topics as a text has room for.
+    fn crowds(&mut self) {
+        let mut class = Class::new("as many topics as a text has room for");
+        limits::crowds().iter().for_each(|text| self.compare(&mut class, text, 0));
         self.classes.push(class);
     }
 
@@ -235,11 +250,23 @@ impl Run {
         match answered(text, end, expected, spare) {
             Ok(too_short) => self.met.count("end 28", too_short),
             Err(_) => {
-                let smaller = if class.clean() { shrink(text, spare, driver) } else { text.to_vec() };
-                class.differ(smaller.len(), || saved(&smaller, spare, driver, self.classes.len()));
+                let found = |text: &[u8]| differs(text, spare, driver);
+                let smaller = if class.clean() { shrink(text, found) } else { text.to_vec() };
+                class.differ(smaller.len(), || saved(&smaller, found, self.classes.len()));
             }
         }
         class.agree();
+        self.stands(text);
+    }
+
+    /// The same with where the limit stands, whatever the driver: its state is that of the one original that is tried.
+    fn stands(&mut self, text: &[u8]) {
+        if standing::wrong(text, &mut self.met).is_some() {
+            let found = |text: &[u8]| standing::wrong(text, &mut Met::default());
+            let smaller = if self.standing.clean() { shrink(text, found) } else { text.to_vec() };
+            self.standing.differ(smaller.len(), || saved(&smaller, found, "standing"));
+        }
+        self.standing.agree();
     }
 
     /// One class for all that a run must have met.
@@ -250,6 +277,9 @@ impl Run {
             class.agree();
         }
         self.classes.push(class);
+        for name in standing::all() {
+            self.standing.seen(name, self.met.times(name));
+        }
     }
 }
 
@@ -336,15 +366,15 @@ fn differs(text: &[u8], spare: usize, driver: Driver) -> Option<String> {
     answered(text, end, &expected, spare).err()
 }
 
-/// Leaves out lines for as long as the answers still differ, runs of whole messages first, with at most 3000 trials.
-fn shrink(text: &[u8], spare: usize, driver: Driver) -> Vec<u8> {
+/// Leaves out lines for as long as something is still found, runs of whole messages first, with at most 3000 trials.
+fn shrink(text: &[u8], found: impl Fn(&[u8]) -> Option<String>) -> Vec<u8> {
     let mut lines: Vec<&[u8]> = text.split_inclusive(|&byte| byte == b'\n').collect();
     let (mut run, mut trials) = (lines.len() / 7 * 7, 3000);
     while run > 0 {
         let mut from = 0;
         while from + run <= lines.len() && trials > 0 {
             let fewer = [&lines[..from], &lines[from + run..]].concat();
-            if differs(&fewer.concat(), spare, driver).is_some() {
+            if found(&fewer.concat()).is_some() {
                 lines = fewer;
             } else {
                 from += if run < 7 { 1 } else { run };
@@ -357,9 +387,9 @@ fn shrink(text: &[u8], spare: usize, driver: Driver) -> Vec<u8> {
 }
 
 /// Writes a text beside this program, and says where and what is wrong with its answer.
-fn saved(text: &[u8], spare: usize, driver: Driver, number: usize) -> String {
+fn saved(text: &[u8], found: impl Fn(&[u8]) -> Option<String>, name: impl Display) -> String {
     let matcher = if STANDARD { "standard-" } else { "" };
-    let path = std::env::current_exe().unwrap().with_file_name(format!("differs-{matcher}{number}.trace"));
+    let path = std::env::current_exe().unwrap().with_file_name(format!("differs-{matcher}{name}.trace"));
     std::fs::write(&path, text).unwrap();
-    format!("{} of {} bytes: {}", path.display(), text.len(), differs(text, spare, driver).unwrap_or_default())
+    format!("{} of {} bytes: {}", path.display(), text.len(), found(text).unwrap_or_default())
 }

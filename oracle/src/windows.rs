@@ -11,9 +11,8 @@ use crate::answers::{NEW, NEW_DENY_DEFAULT, bytes, id_words};
 use crate::said::{self, Look, Said};
 use crate::tally::Class;
 use std::collections::BTreeMap;
-use vs_mqtt_monitor::opened::{contains_invalid_publish_char, djb2_hash, suffix_hash};
-use vs_mqtt_monitor::state::Id;
-use vs_types_embedded::fnv1a_hash;
+use vs_mqtt_monitor::opened::contains_invalid_publish_char;
+use vs_mqtt_monitor::state::identity;
 
 /// What windows must have met.
 const MET: [&str; 13] = [
@@ -150,7 +149,7 @@ impl<'a> Reader<'a> {
             "inspect" | "inspect_claimed" => self.message(before, &words[1..], windows)?,
             "remove_ewma_tracker" => self.calls.trackers += 1,
             "set_connect_storm_params" => self.calls.settings += 1,
-            "validate_rules" | "counters" => {}
+            "validate_rules" | "counters" | "standing" | "tokens_left" => {}
             "add_rule" | "remove_rule" | "swap_rules" | "clear_rules" if self.run == Run::Fresh => {}
             "add_rule" | "remove_rule" | "swap_rules" | "clear_rules" => self.end(windows),
             "reset_state" => {
@@ -267,20 +266,5 @@ impl<'a> Reader<'a> {
             let lines = self.said[..behind].iter().map(|said| said.line.into()).collect();
             self.fault = Some(Fault { lines, window, words });
         }
-    }
-}
-
-/// What tells a topic from others.
-fn identity(topic: &[u8]) -> Id {
-    let first = topic.len().min(32);
-    let mut prefix = [0; 32];
-    prefix[..first].copy_from_slice(&topic[..first]);
-    Id {
-        hash: fnv1a_hash(topic),
-        hash2: djb2_hash(topic),
-        len: topic.len() as u16,
-        suffix_hash: suffix_hash(topic),
-        prefix_len: first as u8,
-        prefix,
     }
 }

@@ -2,6 +2,7 @@
 //     inspect AT ok|bad TYPE QOS TOPIC SIZE PAYLOAD
 //     inspect_claimed AT ok|bad TYPE QOS TOPIC SIZE PAYLOAD CLAIMED CLAIMED
 // as a trace has it, or with claimed lengths that are not those of the lent topic and payload. Each alert has a line of its own.
+use crate::limits;
 use crate::parts::number8;
 use crate::parts::number16;
 use crate::policies::qos;
@@ -9,7 +10,6 @@ use crate::say::say_hex;
 use crate::say::say_number;
 use crate::say::say_outcome;
 use crate::say::say_place;
-use crate::settings;
 use cut::args::arg;
 use cut::args::is;
 use cut::args::number;
@@ -121,5 +121,5 @@ pub fn ask(m: MqttMonitor, name: &[u8], q: &[u8]) -> MqttMonitor {
     if is(name, b"inspect_claimed") {
         return say_inspected(inspect(m, q, true));
     }
-    settings::ask(m, name, q)
+    limits::ask(m, name, q)
 }

@@ -59,6 +59,8 @@ use Rattle.lines.proofs.value.hex as value-hex
 use Rattle.lines.proofs.value.hex.Reads as value-hex-reads
 use Rattle.lines.proofs.held.new as held-new
 use Rattle.lines.proofs.held.line_here as held-line-here
+use Rattle.lines.proofs.put.put_seconds_line as put-put-seconds-line
+use Rattle.lines.proofs.put.put_seconds_line.Reads as put-put-seconds-line-reads
 use Rattle.theorems.specs.One.{Out, Any, One, OneLeft, Says, AsksNothing}
 
 -- what `Wrote` says of a place and a buffer, no other place and buffer meet
@@ -240,3 +242,9 @@ one-held-line-here κs a x y e f p q = p ∙ sym q
 
 pub any-held-line-here : AsksNothing held-line-here.ended (λ M 𝓤. held-line-here.clauses 𝓤)
 any-held-line-here M 𝓤 H A mem run κs a g = refl
+
+pub one-put-put-seconds-line : OneLeft put-put-seconds-line.ended put-put-seconds-line-reads.Post (λ κs e. now (e .0))
+one-put-put-seconds-line κs a x y e f p q = wrote-once p q
+
+pub any-put-put-seconds-line : Any put-put-seconds-line.ended put-put-seconds-line-reads.Asked
+any-put-put-seconds-line κs a = tt

@@ -66,6 +66,10 @@ use Rattle.monitor.proofs.state.well_formed as state-well-formed
 use Rattle.monitor.proofs.state.well_formed.Reads as state-well-formed-reads
 use Rattle.monitor.proofs.message.type_at as message-type-at
 use Rattle.monitor.proofs.message.type_at.Reads as message-type-at-reads
+use Rattle.monitor.proofs.standing.standing as standing-standing
+use Rattle.monitor.proofs.standing.standing.Reads as standing-standing-reads
+use Rattle.monitor.proofs.standing.tokens_left as standing-tokens-left
+use Rattle.monitor.proofs.standing.tokens_left.Reads as standing-tokens-left-reads
 use Rattle.theorems.specs.One.{Any, One}
 
 pub one-alerts-severity-number : One alerts-severity-number.ended alerts-severity-number-reads.Post
@@ -265,3 +269,15 @@ one-message-type-at κs a x y e f p q = p ∙ sym q
 
 pub any-message-type-at : Any message-type-at.ended message-type-at-reads.Asked
 any-message-type-at κs a = tt
+
+pub one-standing-standing : One standing-standing.ended standing-standing-reads.Post
+one-standing-standing κs a x y e f p q = p ∙ sym q
+
+pub any-standing-standing : Any standing-standing.ended standing-standing-reads.Asked
+any-standing-standing κs a = tt
+
+pub one-standing-tokens-left : One standing-tokens-left.ended standing-tokens-left-reads.Post
+one-standing-tokens-left κs a x y e f p q = p ∙ sym q
+
+pub any-standing-tokens-left : Any standing-tokens-left.ended standing-tokens-left-reads.Asked
+any-standing-tokens-left κs a = tt

@@ -78,6 +78,18 @@ use Rattle.tables.proofs.rules.policy_at as rules-policy-at
 use Rattle.tables.proofs.rules.policy_at.Reads as rules-policy-at-reads
 use Rattle.tables.proofs.rules.plan_rule as rules-plan-rule
 use Rattle.tables.proofs.rules.plan_rule.Reads as rules-plan-rule-reads
+use Rattle.tables.proofs.identity.is_of as identity-is-of
+use Rattle.tables.proofs.identity.is_of.Reads as identity-is-of-reads
+use Rattle.tables.proofs.standing.opening_of as standing-opening-of
+use Rattle.tables.proofs.standing.opening_of.Reads as standing-opening-of-reads
+use Rattle.tables.proofs.standing.opening_new as standing-opening-new
+use Rattle.tables.proofs.standing.opening_new.Reads as standing-opening-new-reads
+use Rattle.tables.proofs.standing.look_ahead as standing-look-ahead
+use Rattle.tables.proofs.standing.look_ahead.Reads as standing-look-ahead-reads
+use Rattle.tables.proofs.standing.taken as standing-taken
+use Rattle.tables.proofs.standing.taken.Reads as standing-taken-reads
+use Rattle.tables.proofs.standing.oldest_live as standing-oldest-live
+use Rattle.tables.proofs.standing.oldest_live.Reads as standing-oldest-live-reads
 use Rattle.theorems.specs.One.{Out, Any, One, OneLeft, Says, AsksNothing}
 
 pub one-buckets-consume : One buckets-consume.ended buckets-consume-reads.Post
@@ -314,3 +326,39 @@ one-rules-plan-rule κs a x y e f p q = p ∙ sym q
 
 pub any-rules-plan-rule : Any rules-plan-rule.ended rules-plan-rule-reads.Asked
 any-rules-plan-rule κs a = tt
+
+pub one-identity-is-of : One identity-is-of.ended identity-is-of-reads.Post
+one-identity-is-of κs a x y e f p q = p ∙ sym q
+
+pub any-identity-is-of : Any identity-is-of.ended identity-is-of-reads.Asked
+any-identity-is-of κs a = tt
+
+pub one-standing-opening-of : One standing-opening-of.ended standing-opening-of-reads.Post
+one-standing-opening-of κs a x y e f p q = p ∙ sym q
+
+pub any-standing-opening-of : Any standing-opening-of.ended standing-opening-of-reads.Asked
+any-standing-opening-of κs a = tt
+
+pub one-standing-opening-new : One standing-opening-new.ended standing-opening-new-reads.Post
+one-standing-opening-new κs a x y e f p q = p ∙ sym q
+
+pub any-standing-opening-new : Any standing-opening-new.ended standing-opening-new-reads.Asked
+any-standing-opening-new κs a = tt
+
+pub one-standing-look-ahead : One standing-look-ahead.ended standing-look-ahead-reads.Post
+one-standing-look-ahead κs a x y e f p q = p ∙ sym q
+
+pub any-standing-look-ahead : Any standing-look-ahead.ended standing-look-ahead-reads.Asked
+any-standing-look-ahead κs a = tt
+
+pub one-standing-taken : One standing-taken.ended standing-taken-reads.Post
+one-standing-taken κs a x y e f p q = p ∙ sym q
+
+pub any-standing-taken : Any standing-taken.ended standing-taken-reads.Asked
+any-standing-taken κs a = tt
+
+pub one-standing-oldest-live : One standing-oldest-live.ended standing-oldest-live-reads.Post
+one-standing-oldest-live κs a x y e f p q = p ∙ sym q
+
+pub any-standing-oldest-live : Any standing-oldest-live.ended standing-oldest-live-reads.Asked
+any-standing-oldest-live κs a = tt

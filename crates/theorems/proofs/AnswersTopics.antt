@@ -36,6 +36,10 @@ use Rattle.topics.proofs.matching.matches_by as matching-matches-by
 use Rattle.topics.proofs.matching.matches_by.Reads as matching-matches-by-reads
 use Rattle.topics.proofs.utf8.is_utf8 as utf8-is-utf8
 use Rattle.topics.proofs.utf8.is_utf8.Reads as utf8-is-utf8-reads
+use Rattle.topics.proofs.shown.is_readable as shown-is-readable
+use Rattle.topics.proofs.shown.is_readable.Reads as shown-is-readable-reads
+use Rattle.topics.proofs.shown.shown_byte as shown-shown-byte
+use Rattle.topics.proofs.shown.shown_byte.Reads as shown-shown-byte-reads
 use Rattle.theorems.specs.One.{Any, One}
 
 pub one-hashes-wrapping-mul32 : One hashes-wrapping-mul32.ended hashes-wrapping-mul32-reads.Post
@@ -145,3 +149,15 @@ one-utf8-is-utf8 κs a x y e f p q = p ∙ sym q
 
 pub any-utf8-is-utf8 : Any utf8-is-utf8.ended utf8-is-utf8-reads.Asked
 any-utf8-is-utf8 κs a = tt
+
+pub one-shown-is-readable : One shown-is-readable.ended shown-is-readable-reads.Post
+one-shown-is-readable κs a x y e f p q = p ∙ sym q
+
+pub any-shown-is-readable : Any shown-is-readable.ended shown-is-readable-reads.Asked
+any-shown-is-readable κs a = tt
+
+pub one-shown-shown-byte : One shown-shown-byte.ended shown-shown-byte-reads.Post
+one-shown-shown-byte κs a x y e f p q = p ∙ sym q
+
+pub any-shown-shown-byte : Any shown-shown-byte.ended shown-shown-byte-reads.Asked
+any-shown-shown-byte κs a = tt

@@ -29,6 +29,10 @@ use Rattle.trace.proofs.run.run_trace as run-run-trace
 use Rattle.trace.proofs.run.run_trace.Reads as run-run-trace-reads
 use Rattle.trace.proofs.run.run_trace_by as run-run-trace-by
 use Rattle.trace.proofs.run.run_trace_by.Reads as run-run-trace-by-reads
+use Rattle.trace.proofs.seen.see_all as seen-see-all
+use Rattle.trace.proofs.seen.see_all.Reads as seen-see-all-reads
+use Rattle.trace.proofs.standing.write_standing as standing-write-standing
+use Rattle.trace.proofs.standing.write_standing.Reads as standing-write-standing-reads
 use Rattle.theorems.specs.One.{Any, One, OneLeft}
 use Rattle.theorems.proofs.AnswersLines.{wrote-once}
 
@@ -109,3 +113,15 @@ one-run-run-trace-by κs a x y e f p q = (p .0 ∙ sym (q .0), p .1 ∙ sym (q .
 
 pub any-run-run-trace-by : Any run-run-trace-by.ended run-run-trace-by-reads.Asked
 any-run-run-trace-by κs a = tt
+
+pub one-seen-see-all : One seen-see-all.ended seen-see-all-reads.Post
+one-seen-see-all κs a x y e f p q = p ∙ sym q
+
+pub any-seen-see-all : Any seen-see-all.ended seen-see-all-reads.Asked
+any-seen-see-all κs a = tt
+
+pub one-standing-write-standing : OneLeft standing-write-standing.ended standing-write-standing-reads.Post (λ κs e. now (e .1 .1 .0))
+one-standing-write-standing κs a x y e f p q = (p .0 ∙ sym (q .0), p .1 .0 ∙ sym (q .1 .0))
+
+pub any-standing-write-standing : Any standing-write-standing.ended standing-write-standing-reads.Asked
+any-standing-write-standing κs a = tt

@@ -1,5 +1,6 @@
 mod Account
 mod AnswersCut
+mod AnswersDesk
 mod AnswersHub
 mod AnswersLines
 mod AnswersLoops

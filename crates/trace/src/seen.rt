@@ -90,7 +90,7 @@ pub fn see_all(text: &[u8], matching: Matching) -> Seen
 }
 
 // The topic of the first message from a place on that has an identity, at the beginning of a lent buffer, and its length; 0 where none has.
-pub fn find_named(text: &[u8], at: usize, held: Id, name: &mut [u8; TOPIC_MAX]) -> usize
+pub(crate) fn find_named(text: &[u8], at: usize, held: Id, name: &mut [u8; TOPIC_MAX]) -> usize
     ensures named { λ r. ⌜ take r (now (name .exit)) ≡ namedBy (sentFrom (now (text .entry)) at) held ⌝ }
     ensures short { λ r. ⌜ r ≤ 128 ⌝ }
     ensures long { λ _. ⌜ (length (now (name .entry)) ≡ 128 → length (now (name .exit)) ≡ 128) ⌝ }
@@ -126,7 +126,7 @@ fn names(packet_type: MqttPacketType, name: &[u8], topic: &[u8]) -> bool
 }
 
 // Whether a Publish names a topic from a place on.
-pub fn is_named(text: &[u8], at: usize, topic: &[u8]) -> bool
+pub(crate) fn is_named(text: &[u8], at: usize, topic: &[u8]) -> bool
     ensures { λ r. ⌜ r ≡ isNamed (sentFrom (now (text .entry)) at) (now (topic .entry)) ⌝ }
 {
     let mut name = buffer_128();

@@ -157,7 +157,8 @@ module _ (matching : Matching) (s : List ℕ) {seen : Seen} (e : seen ≡ seenIn
   unfolding standingEnd
   stands-whole {room} q h = let g : length (standingText matching s) ≤ room = omega arith in rw (le-leb _ _ g, q, e)
 
-  pub kept-whole : (d : List ℕ) {n : ℕ} {t : List ℕ} → t ≡ standingText matching s → n ≡ length (standingText matching s) → n ≤ length d → {e′ : List ℕ} → e′ ≡ sets d 0 t → e′ ≡ standingKept matching d s
+  pub kept-whole : (d : List ℕ) {n : ℕ} {t : List ℕ} → t ≡ standingText matching s → n ≡ length (standingText matching s) → n ≤ length d
+      → {e′ : List ℕ} → e′ ≡ sets d 0 t → e′ ≡ standingKept matching d s
   unfolding standingKept
   kept-whole d t q h k = let g : length (standingText matching s) ≤ length d = omega arith in rw (le-leb _ _ g, ← t) k
 

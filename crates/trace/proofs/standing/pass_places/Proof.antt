@@ -1,5 +1,5 @@
--- `trace::standing::pass_places` meets its contract. The invariant: what is left to go out are the places of the buckets that are left, at most `left` of them; each takes at most 397 bytes. The measure is
--- `left`. Assumes nothing.
+-- `trace::standing::pass_places` meets its contract. The invariant: what is left to go out are the places of the buckets that are left, at most `left` of them; each takes at most 397 bytes. The
+-- measure is `left`. Assumes nothing.
 use Prim.Native.Nat.{ℕ, suc, _+_, _-_, _*_, _≤_, _<_}
 use mathlib.Core.List.{List, _++_}
 use mathlib.Core.Path.{_≡_, sym, ap, _∙_}
@@ -72,6 +72,10 @@ find-named-requires c κs = search needs
 name-long : (c : tie.After-find-named Inv-loop μ-loop) → length (c .find-named .last .1 .1 .1 .0) ≡ 128
 name-long c = c .find-named .ensures .1 .1 (at-loop (at-oldest c) .loop .inv .3)
 
+-- and the name is its beginning
+name-inside : (c : tie.After-find-named Inv-loop μ-loop) → c .find-named .result ≤ length (c .find-named .last .1 .1 .1 .0)
+name-inside c = omega (arith, c .find-named .ensures .1 .0, name-long c)
+
 -- what goes out in this turn, and what is left then
 abbrev part : tie.After-find-named Inv-loop μ-loop → List ℕ
 part c = nameText (bytes "place=") (take (c .find-named .result) (c .find-named .last .1 .1 .1 .0))
@@ -92,10 +96,10 @@ here c =
     (omega (arith, l .loop .inv .4, c .before .before .before .before .if1 .left)) (c .find-named .ensures .0)
 
 array-share-prefix-name : tie.Need-array-share-prefix-name Inv-loop μ-loop
-array-share-prefix-name c = let found = c .before in omega (arith, found .find-named .ensures .1 .0, name-long found)
+array-share-prefix-name c = name-inside (c .before)
 
 slice-aggregate-pass-place : tie.Need-slice-aggregate-pass-place Inv-loop μ-loop
-slice-aggregate-pass-place c = let found = c .before .before in sym (length-take-le _ _ (omega (arith, found .find-named .ensures .1 .0, name-long found)))
+slice-aggregate-pass-place c = sym (length-take-le _ _ (name-inside (c .before .before)))
 
 pass-place-requires : tie.Need-pass-place-requires Inv-loop μ-loop
 pass-place-requires c κs =
@@ -103,7 +107,7 @@ pass-place-requires c κs =
     let l = at-loop (at-oldest found) in (
       omega (arith, l .loop .inv .2, start-of l .pre .0),
       (
-        omega (arith, length-take-le (found .find-named .result) (found .find-named .last .1 .1 .1 .0) (omega (arith, found .find-named .ensures .1 .0, name-long found)), found .find-named .ensures .1 .0),
+        omega (arith, length-take-le (found .find-named .result) (found .find-named .last .1 .1 .1 .0) (name-inside found), found .find-named .ensures .1 .0),
         passing-room (l .loop .inv .0) (part found) (further found) (here found) (start-of l .pre .1),
       ),
     )
@@ -128,7 +132,8 @@ loop-again c =
     let passed = c .before .before .before in
     let found = passed .before .before .before in
     let l = at-loop (at-oldest found) in (
-      rw (c .empty-bucket .ensures) (passing-turn (l .loop .inv .0) (part found) (further found) (here found) (start-of l .pre .1) (passed .pass-place .ensures .0 .0) (passed .pass-place .ensures .1)),
+      rw (c .empty-bucket .ensures)
+          (passing-turn (l .loop .inv .0) (part found) (further found) (here found) (start-of l .pre .1) (passed .pass-place .ensures .0 .0) (passed .pass-place .ensures .1)),
       omega (arith, l .loop .inv .1),
       omega (arith, l .loop .inv .2, passed .pass-place .ensures .0 .1, at-oldest found .before .loop-test .taken),
       name-long found,
