@@ -1,5 +1,5 @@
 -- Where the limit stands is exact over `inspect`, under any matcher: whatever else a Publish says, inspected at any time it is denied exactly by the kind that its topic's standing has for that time,
--- or allowed (`kind-exact`, `allowed-exact`). A denied one leaves the standing as it was (`tries-stay`), but for a newcomer's, which gets a bucket (`newcomer-stands`). And the tokens left are those
+-- or allowed (`kind-exact`, `allowed-exact`). A denied one leaves the standing as it was (`tries-stay`), but for a newcomer's, which gets the place of the oldest (`newcomer-stands`, `newcomer-takes`). And the tokens left are those
 -- of the bucket that it leaves (`left-exact`). Assumes nothing.
 use mathlib.Core.Bool.{Bool, true, false, cond, not, _&&_, _||_, false≢true, true≢false}
 use mathlib.Core.List.{List}
@@ -8,7 +8,7 @@ use Prim.Native.Nat.{ℕ, _+_, _/_, _≤_, _<_}
 use native.Mathlib.Omega.{arith}
 use borrow.Author.Tests.{eq-eqb, ne-eqb, le-leb, lt-ltb, le-ltb, leb-true, ltb-true, ltb-false}
 use lib.Dec.{eqb, leb, ltb}
-use lib.ListN.{length, take, getD, length-take}
+use lib.ListN.{length, take, getD, set, length-take}
 use Rattle.laws.proofs.Cases.{by}
 use Rattle.laws.proofs.Every.{every-at}
 use Rattle.laws.proofs.Tests.{both}
@@ -16,10 +16,10 @@ use Rattle.laws.specs.Lists.{every, none}
 use Rattle.topics.specs.Matching.{matchesBy}
 use Rattle.topics.specs.Names.{badPublish}
 use Rattle.topics.specs.declared.matching.Matching.{Matching}
-use Rattle.tables.specs.Buckets.{noBucket, bucketFine, holdsBucket, decide}
+use Rattle.tables.specs.Buckets.{noBucket, bucketFine, holdsBucket, made, decide}
 use Rattle.tables.specs.Identity.{idOf}
 use Rattle.tables.specs.Scan.{find}
-use Rattle.tables.specs.Standing.{opens, laterBy, prospectIn}
+use Rattle.tables.specs.Standing.{opens, laterBy, prospectIn, oldestLive}
 use Rattle.tables.specs.declared.buckets.RateBucket.{RateBucket}
 use Rattle.tables.specs.declared.buckets.RateCheckResult.the-variants.{Allowed, Limited, EvictedAndDenied}
 use Rattle.tables.specs.declared.identity.Id.{Id}
@@ -27,7 +27,7 @@ use Rattle.tables.specs.declared.rules.TopicAction.{TopicAction}
 use Rattle.tables.specs.declared.rules.TopicRule.{TopicRule}
 use Rattle.tables.proofs.ScanLaws.{find-lt}
 use Rattle.tables.proofs.buckets.StepLaws.{grants, stored}
-use Rattle.tables.proofs.standing.ExactLaws.{result-exact, held-is, limited-stays, newcomer-waits, stored-there}
+use Rattle.tables.proofs.standing.ExactLaws.{result-exact, held-is, limited-stays, newcomer-waits, gives-way, stored-there}
 use Rattle.monitor.specs.Gate.{isBlock, rulingOf, gateAfter, gateOf}
 use Rattle.monitor.specs.Inspect.{inspectRefusal, inspectWith}
 use Rattle.monitor.specs.Message.{typeNumber, usedTopic, usedPayload}
@@ -219,6 +219,11 @@ module _ (matcher : List ℕ → List ℕ → Bool) (m : MqttMonitor) (msg : Mqt
               let l : length bs ≤ find (holdsBucket id) bs = ltb-false _ _ (sym (held-is bs id) ∙ y) in
               rw tables-then (newcomer-waits bs id rate (msg .«timestamp_us») (omega arith) (ltb-true _ _ h) l not-granted)
 
+          takes-oldest : prospectIn bs id .held ≡ false → next .«rate_buckets» ≡ set bs (oldestLive bs) (made id rate 0 (msg .«timestamp_us»))
+          takes-oldest y =
+              let l : length bs ≤ find (holdsBucket id) bs = ltb-false _ _ (sym (held-is bs id) ∙ y) in
+              tables-then ∙ gives-way bs id rate (msg .«timestamp_us») (omega arith) l not-granted
+
       -- TRYING DOES NOT PROLONG THE WAIT: who is denied, and not by 6, stands where it stood
       pub tries-stay : opens (standingWith matcher m used .opening) (msg .«timestamp_us») ≡ false → (standingWith matcher m used .kind ≡ 6 → ⊥)
           → standingWith matcher next used ≡ standingWith matcher m used
@@ -254,6 +259,24 @@ module _ (matcher : List ℕ → List ℕ → Bool) (m : MqttMonitor) (msg : Mqt
           by (prospectIn bs id .held)
           (λ y. absurd (let q : _≡_ {A = ℕ} 5 6 = rw y at f in omega arith))
           (λ y. rw (waits-new h d y))))
+          (λ h. rw (k, h) (λ d f. absurd (omega arith)))))
+
+      -- and WHO GIVES WAY to it is the oldest
+      pub newcomer-takes : opens (standingWith matcher m used .opening) (msg .«timestamp_us») ≡ false → standingWith matcher m used .kind ≡ 6
+          → next .«rate_buckets» ≡ set bs (oldestLive bs) (made id (standingWith matcher m used .rate) 0 (msg .«timestamp_us»))
+      newcomer-takes =
+          let g : Gate = gateIn matcher m aPublish used in
+          rw by-gate
+          (by (ltb 0 (g .denial))
+          (λ k. rw k (λ d f. absurd (not-six matcher m used f)))
+          (λ k.
+          by (ltb 0 (g .rate))
+          (λ h.
+          rw (k, h)
+          (λ d f.
+          by (prospectIn bs id .held)
+          (λ y. absurd (let q : _≡_ {A = ℕ} 5 6 = rw y at f in omega arith))
+          (λ y. takes-oldest h d y)))
           (λ h. rw (k, h) (λ d f. absurd (omega arith)))))
 
 -- what a message leaves, under the monitor's own matcher

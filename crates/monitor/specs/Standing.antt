@@ -1,5 +1,5 @@
 -- Where the limit stands for a Publish of a topic: what `inspect` would do with it, at every time, if nothing else came before it. What the message says beside its topic does not count
--- (proofs/StandingLaws.antt, `publish-gate`), so one Publish stands for all of them.
+-- (proofs/StandingExact.antt, `publish-gate`), so one Publish stands for all of them.
 -- Assumes nothing.
 use mathlib.Core.Bool.{Bool, true, cond}
 use mathlib.Core.List.{List}

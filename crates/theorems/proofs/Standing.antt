@@ -13,7 +13,7 @@ use Rattle.monitor.specs.Standing.{standingWith}
 use Rattle.monitor.specs.State.{matcherOf}
 use Rattle.monitor.specs.declared.state.MqttMonitor.{MqttMonitor}
 use Rattle.monitor.proofs.Chosen.{inspect-keeps}
-use Rattle.monitor.proofs.StandingExact.{kind-exact, allowed-exact, tries-stay, newcomer-stands, left-kind, left-tokens}
+use Rattle.monitor.proofs.StandingExact.{kind-exact, allowed-exact, tries-stay, newcomer-stands, newcomer-takes, left-kind, left-tokens}
 use Rattle.theorems.specs.Run.{time, used}
 use Rattle.theorems.specs.Shipped.{passes}
 use Rattle.theorems.specs.Standing.{Published, Standing, before, after}
@@ -46,6 +46,8 @@ standing =
       newcomer =
           λ m c p d f.
           kept m c p ∙ newcomer-stands (matcherOf m) m (c .msg) (c .topic) (c .payload) (is-publish m c p) (p .taken) (p .table) (low m c p) (not-yet m c p d) f;
+      gives-way =
+          λ m c p d f. newcomer-takes (matcherOf m) m (c .msg) (c .topic) (c .payload) (is-publish m c p) (p .taken) (p .table) (low m c p) (not-yet m c p d) f;
       left-kind = λ m c p. left-kind m (c .msg) (c .topic) (c .payload) (is-publish m c p) (p .taken);
       left-tokens = λ m c p z. left-tokens m (c .msg) (c .topic) (c .payload) (is-publish m c p) (p .taken) (p .table) (low m c p) z;
     }

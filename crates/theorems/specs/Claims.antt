@@ -47,7 +47,8 @@ pub record Claims : Type 0 where
   -- that bound is met, for one removal and for two, by the topic's own and by another's; and what a removal with a slip would let pass
   pub removal-runs : RemovalRuns
   -- WHERE THE LIMIT STANDS for one topic on one hub, now: a Publish that `inspect` does not refuse is allowed exactly when the time that `standing` says has come, whatever else it says; before
-  -- that it is denied by the kind that is said; trying does not prolong the wait, and a newcomer that was denied with 6 stands at most one token later; `tokens_left` says what is left after it
+  -- that it is denied by the kind that is said; trying does not prolong the wait, and a newcomer that was denied with 6 takes the place of the oldest and stands at most one token later;
+  -- `tokens_left` says what is left after it
   pub standing : Standing
   -- demand 3's bounds are met: four messages where the bound is four; a later message at the very microsecond; the night that started this
   pub met : Met × MetLater × Night

@@ -5,11 +5,11 @@
 use mathlib.Core.Path.{_≡_}
 use mathlib.Core.Bool.{false, true}
 use Prim.Native.Nat.{ℕ, _+_, _/_, _^_, _<_}
-use lib.ListN.{length, getD}
-use Rattle.tables.specs.Buckets.{noBucket, holdsBucket}
+use lib.ListN.{length, getD, set}
+use Rattle.tables.specs.Buckets.{noBucket, holdsBucket, made}
 use Rattle.tables.specs.Identity.{idOf}
 use Rattle.tables.specs.Scan.{find}
-use Rattle.tables.specs.Standing.{opens, laterBy}
+use Rattle.tables.specs.Standing.{opens, laterBy, oldestLive}
 use Rattle.tables.specs.declared.buckets.RateBucket.{RateBucket}
 use Rattle.monitor.specs.Runs.{Call, shipped}
 use Rattle.monitor.specs.Standing.{standsAt, standingIn, kindAt, leftIn}
@@ -58,6 +58,11 @@ pub record Standing : Type 0 where
   pub newcomer :
       (m : MqttMonitor) (c : Call) → Published m c → passes shipped m c ≡ false → before m c .kind ≡ 6
       → after m c ≡ standsAt 0 5 (before m c .rate) (laterBy (time c) (999999 / before m c .rate + 1))
+  -- and the place that it takes is that of the oldest, the first in the list of who holds the places; no other place moves
+  pub gives-way :
+      (m : MqttMonitor) (c : Call) → Published m c → passes shipped m c ≡ false → before m c .kind ≡ 6
+      → shipped m c .monitor .«rate_buckets»
+      ≡ set (m .«rate_buckets») (oldestLive (m .«rate_buckets»)) (made (idOf (used c)) (before m c .rate) 0 (time c))
   -- what `tokens_left` says of a time is what a message then meets: the kind that denies it
   pub left-kind : (m : MqttMonitor) (c : Call) → Published m c → denial m c ≡ said m c .kind
   -- and the tokens that its topic's bucket has after it, where the limiter counts it

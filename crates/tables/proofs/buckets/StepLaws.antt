@@ -78,7 +78,7 @@ pub grants-spent : (ok : Bool) → grants (cond ok Allowed Limited) ≡ ok
 grants-spent true = refl
 grants-spent false = refl
 
-grants-put : (ok : Bool) → grants (cond ok Allowed EvictedAndDenied) ≡ ok
+pub grants-put : (ok : Bool) → grants (cond ok Allowed EvictedAndDenied) ≡ ok
 grants-put true = refl
 grants-put false = refl
 

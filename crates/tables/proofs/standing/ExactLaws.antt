@@ -1,12 +1,12 @@
 -- Where the limit stands is exact: the limiter lets a message pass exactly from that time on (`result-exact`). A message that it denies by 5 does not move it (`limited-stays`), and one that it
 -- denies by 6 waits for one whole token from then on (`newcomer-waits`). Assumes nothing.
 use mathlib.Core.Bool.{Bool, true, false, cond, true≢false}
-use mathlib.Core.List.{List}
+use mathlib.Core.List.{List, [], _∷_}
 use mathlib.Core.Path.{_≡_, refl, sym, ap, _∙_}
-use Prim.Native.Nat.{ℕ, _+_, _-_, _*_, _/_, _%_, _<_, _≤_, min}
+use Prim.Native.Nat.{ℕ, suc, _+_, _-_, _*_, _/_, _%_, _<_, _≤_, min}
 use native.Mathlib.Nat.{div-lt-iff-lt-mul, add-mul-div-right}
 use native.Mathlib.Omega.{arith}
-use borrow.Author.Tests.{lt-ltb, le-ltb, le-leb, lt-leb, leb-true, leb-false, ltb-true, ltb-false, eqb-true, eqb-false, ne-eqb}
+use borrow.Author.Tests.{lt-ltb, le-ltb, le-leb, lt-leb, leb-true, leb-false, ltb-true, ltb-false, eqb-true, eqb-false, ne-eqb, not-false}
 use lib.Dec.{eqb, leb, ltb}
 use lib.ListN.{length, getD, set, length-set}
 use lib.Seq.{getD-set-same, getD-set-other}
@@ -14,16 +14,16 @@ use Rattle.laws.proofs.Cases.{by}
 use Rattle.laws.proofs.Tests.{alike}
 use Rattle.tables.specs.Buckets.{withTokens, due, risen, latest, refilled, spend, noBucket, holdsBucket, isExpired, newcomer, decide, made}
 use Rattle.tables.specs.Scan.{find, leastOf, leastPlace, any, seat}
-use Rattle.tables.specs.Standing.{opens, laterBy, openingOf, openingNew, prospectIn}
+use Rattle.tables.specs.Standing.{opens, laterBy, openingOf, openingNew, prospectIn, oldestLive}
 use Rattle.tables.specs.declared.identity.Id.{Id}
 use Rattle.tables.specs.declared.buckets.RateBucket.{RateBucket}
 use Rattle.tables.specs.declared.buckets.RateCheckResult.the-variants.{Allowed, Limited, EvictedAndDenied}
 use Rattle.tables.specs.declared.buckets.Spent.{Spent}
 use Rattle.tables.specs.declared.standing.Opening.the-variants.{Never, From}
-use Rattle.tables.proofs.ScanLaws.{find-lt, find-before, find-none, place-lt, seat-free, seat-least, seat-lt}
+use Rattle.tables.proofs.ScanLaws.{find-lt, find-before, find-none, place-lt, least-at, seat-free, seat-least, seat-lt}
 use Rattle.tables.proofs.buckets.BucketLaws.{keeps}
-use Rattle.tables.proofs.buckets.PlaceLaws.{timeOf, isFree, newcomer-put}
-use Rattle.tables.proofs.buckets.StepLaws.{grants, grants-spent, stored, none-holds, Step, hit, put, step}
+use Rattle.tables.proofs.buckets.PlaceLaws.{timeOf, isFree, isOpen, newcomer-put}
+use Rattle.tables.proofs.buckets.StepLaws.{grants, grants-spent, grants-put, stored, none-holds, Step, hit, put, step}
 use Rattle.tables.proofs.identity.IdentityLaws.{is-of-refl}
 use Rattle.tables.proofs.standing.StandingLaws.{prospect-held}
 
@@ -230,3 +230,32 @@ stored-there bs id rate t some =
     let a = none-holds bs id e in
     rw (e, newcomer-put bs id rate t some)
     (found-there bs id (seat isFree timeOf bs) _ (seat-lt isFree timeOf bs noBucket some) (is-of-refl id) (λ j k. a .none j)))
+
+-- where all are live, the oldest live bucket is the oldest of all
+live-all : (bs : List RateBucket) → ((j : ℕ) → j < length bs → getD bs j noBucket .active ≡ true) → leastOf timeOf (λ b. b .active) bs ≡ leastOf timeOf any bs
+unfolding leastOf
+live-all [] h = refl
+live-all (b ∷ bs) h = let e : b .active ≡ true = h 0 (omega arith) in rw (e, live-all bs (λ j l. h (suc j) (omega arith)))
+
+oldest-of-all : (bs : List RateBucket) → 0 < length bs → ((j : ℕ) → j < length bs → getD bs j noBucket .active ≡ true) → oldestLive bs ≡ leastPlace (leastOf timeOf any bs)
+unfolding oldestLive
+oldest-of-all bs some h = rw (live-all bs h, least-at timeOf noBucket bs some)
+
+-- WHO GIVES WAY: a newcomer that is denied takes the place of the oldest, with an empty bucket
+pub gives-way : (bs : List RateBucket) (id : Id) (rate t : ℕ) → 0 < length bs → length bs ≤ find (holdsBucket id) bs → grants (decide bs id rate t .result) ≡ false
+    → stored bs (decide bs id rate t) ≡ set bs (oldestLive bs) (made id rate 0 t)
+unfolding decide
+gives-way bs id rate t some new =
+    rw (le-ltb _ _ new, newcomer-put bs id rate t some)
+    (by (ltb (find isFree bs) (length bs))
+    (λ f.
+    let l : find isFree bs < length bs = ltb-true _ _ f in
+    rw (← seat-free isFree timeOf bs refl l, find-lt isFree bs noBucket l) (λ d. absurd (true≢false d)))
+    (λ f.
+    let l : length bs ≤ find isFree bs = ltb-false _ _ f in
+    let i : ℕ = leastPlace (leastOf timeOf any bs) in
+    let live : (j : ℕ) → j < length bs → getD bs j noBucket .active ≡ true = λ j h. not-false _ (find-none isFree bs noBucket l j h) in
+    rw (← seat-least isFree timeOf bs refl l refl)
+    (λ d.
+    let shut : isOpen (getD bs i noBucket) t ≡ false = sym (grants-put (isOpen (getD bs i noBucket) t)) ∙ d in
+    rw (shut, oldest-of-all bs some live))))
