@@ -17,8 +17,8 @@
  *
  * Stack, in bytes below the caller, by measurement (rattle-kit-5b, x86-64; `bin/measure stack` measures again): those of
  * the standing reach 82,392, those of traces 30,258, every other call at most 256, less not being told apart. Whole, cut
- * and damaged traces were tried; by the disassembly no function of the archives calls itself, no frame grows with its
- * input, and the frames add up to no more. */
+ * and damaged traces were tried; by the disassembly no function of libhub.a calls itself, no frame grows with its input,
+ * and the frames add up to no more. libdesk.a was measured alone. */
 #ifndef HUB_H
 #define HUB_H
 

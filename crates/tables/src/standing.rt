@@ -1,6 +1,7 @@
 // Where the limit stands: from when on the limiter lets a message of an identity pass, if no message comes before it, and who would give way. Nothing is spent or stored.
 use crate::buckets;
 use crate::buckets::BUCKETS;
+use crate::buckets::IDLE_MAX;
 use crate::buckets::RateBucket;
 use crate::identity;
 use crate::identity::Id;
@@ -13,7 +14,7 @@ ghost use Rattle.tables.specs.Scan.{find};
 ghost use Rattle.tables.specs.Standing.{laterBy, openingOf, openingNew, prospectIn, takenIn, oldestLive};
 
 // The longest wait of a newcomer, in microseconds: with it a bucket is idle too long.
-const IDLE_OVER: u64 = buckets::IDLE_MAX + 1;
+const IDLE_OVER: u64 = IDLE_MAX + 1;
 
 // From a time on, or not within 64 bits.
 pub enum Opening {
