@@ -1,6 +1,6 @@
 -- Where the limit stands is exact over `inspect`, under any matcher: whatever else a Publish says, inspected at any time it is denied exactly by the kind that its topic's standing has for that time,
--- or allowed (`kind-exact`, `allowed-exact`). A denied one leaves the standing as it was (`tries-stay`), but for a newcomer's, which gets the place of the oldest (`newcomer-stands`, `newcomer-takes`).
--- And the tokens left are those of the bucket that it leaves (`left-tokens`). Assumes nothing.
+-- or allowed (`kind-exact`, `allowed-exact`). A denied one leaves the standing as it was (`tries-stay`), but for a newcomer's, which gets the place of the oldest (`newcomer-stands`,
+-- `newcomer-takes`). And the tokens left are those of the bucket that it leaves (`left-tokens`). Assumes nothing.
 use mathlib.Core.Bool.{Bool, true, false, cond, not, _&&_, _||_, false≢true, true≢false}
 use mathlib.Core.List.{List}
 use mathlib.Core.Path.{_≡_, refl, sym, ap, _∙_}
