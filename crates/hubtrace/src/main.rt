@@ -1,6 +1,6 @@
-// hubtrace: a trace on standard input, its answer on standard output (document 01, "The trace"). All of the work is `trace::run::run_trace_by`; here are only the
-// two buffers and the way in and out. That the answer is whole is promised by `answer` and `stand`; what `read` and `write` move, and the word behind the program's name, are
-// the C library's word. With `--match=standard` the rules are matched as MQTT 3.1.1 section 4.7 has it, else as the Rust does.
+// hubtrace: a trace on standard input, its answer on standard output (document 01, "The trace"), and with `--standing` where the limit stands after it. All of the work is
+// `trace::run::run_trace_by` and `trace::standing::write_standing`; here are only the two buffers and the way in and out. That an answer is whole is promised by `answer` and `stand`; what `read` and
+// `write` move, and the words behind the program's name, are the C library's word. With `--match=standard` the rules are matched as MQTT 3.1.1 section 4.7 has it, else as the Rust does.
 // A program has no exit status of its own: it says on standard error what failed, and nothing where nothing did. `bin/hubtrace` makes a status of that.
 mod asked;
 mod input;

@@ -242,29 +242,12 @@ module _ (matcher : List ℕ → List ℕ → Bool) (m : MqttMonitor) (msg : Mqt
           (λ y. absurd (f (rw y)))))
           (λ h. rw (k, h) (λ d f. refl))))
 
-      -- A NEWCOMER that is denied with 6 has a bucket then, and stands one token later
-      pub newcomer-stands : opens (standingWith matcher m used .opening) (msg .«timestamp_us») ≡ false → standingWith matcher m used .kind ≡ 6
-          → standingWith matcher next used
-          ≡ standsAt 0 5 (standingWith matcher m used .rate) (laterBy (msg .«timestamp_us») (999999 / standingWith matcher m used .rate + 1))
-      newcomer-stands =
-          let g : Gate = gateIn matcher m aPublish used in
-          rw (by-gate, by-gate-then)
-          (by (ltb 0 (g .denial))
-          (λ k. rw k (λ d f. absurd (not-six matcher m used f)))
-          (λ k.
-          by (ltb 0 (g .rate))
-          (λ h.
-          rw (k, h)
-          (λ d f.
-          by (prospectIn bs id .held)
-          (λ y. absurd (let q : _≡_ {A = ℕ} 5 6 = rw y at f in omega arith))
-          (λ y. rw (waits-new h d y))))
-          (λ h. rw (k, h) (λ d f. absurd (omega arith)))))
-
-      -- and WHO GIVES WAY to it is the oldest
-      pub newcomer-takes : opens (standingWith matcher m used .opening) (msg .«timestamp_us») ≡ false → standingWith matcher m used .kind ≡ 6
-          → next .«rate_buckets» ≡ set bs (oldestLive bs) (made id (standingWith matcher m used .rate) 0 (msg .«timestamp_us»))
-      newcomer-takes =
+      -- what a standing by 6 says: the gate does not deny, the limiter counts, and the identity is new
+      by-six : opens (standingWith matcher m used .opening) (msg .«timestamp_us») ≡ false → standingWith matcher m used .kind ≡ 6
+          → let g : Gate = gateIn matcher m aPublish used in
+          (ltb 0 (g .denial) ≡ false) × (ltb 0 rate ≡ true) × (opens (prospectIn bs id .opening) (msg .«timestamp_us») ≡ false) × (prospectIn bs id .held ≡ false)
+          × (standingWith matcher m used .rate ≡ rate)
+      by-six =
           let g : Gate = gateIn matcher m aPublish used in
           rw by-gate
           (by (ltb 0 (g .denial))
@@ -276,8 +259,18 @@ module _ (matcher : List ℕ → List ℕ → Bool) (m : MqttMonitor) (msg : Mqt
           (λ d f.
           by (prospectIn bs id .held)
           (λ y. absurd (let q : _≡_ {A = ℕ} 5 6 = rw y at f in omega arith))
-          (λ y. takes-oldest h d y)))
+          (λ y. (refl, refl, d, y, refl))))
           (λ h. rw (k, h) (λ d f. absurd (omega arith)))))
+
+      module _ (d : opens (standingWith matcher m used .opening) (msg .«timestamp_us») ≡ false) (f : standingWith matcher m used .kind ≡ 6) where
+        -- A NEWCOMER that is denied with 6 has a bucket then, and stands one token later
+        pub newcomer-stands : standingWith matcher next used
+            ≡ standsAt 0 5 (standingWith matcher m used .rate) (laterBy (msg .«timestamp_us») (999999 / standingWith matcher m used .rate + 1))
+        newcomer-stands = let s = by-six d f in rw (by-gate-then, s .4, s .0, s .1, waits-new (s .1) (s .2) (s .3))
+
+        -- and WHO GIVES WAY to it is the oldest
+        pub newcomer-takes : next .«rate_buckets» ≡ set bs (oldestLive bs) (made id (standingWith matcher m used .rate) 0 (msg .«timestamp_us»))
+        newcomer-takes = let s = by-six d f in rw (s .4) (takes-oldest (s .1) (s .2) (s .3))
 
 -- what a message leaves, under the monitor's own matcher
 module _ (m : MqttMonitor) (msg : MqttMessage) (topic payload : List ℕ) (e : typeNumber (msg .«packet_type») ≡ 3) (r : inspectRefusal m msg topic payload ≡ 0) where
