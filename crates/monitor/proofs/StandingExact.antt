@@ -1,7 +1,7 @@
 -- Where the limit stands is exact over `inspect`, under any matcher: whatever else a Publish says, inspected at any time it is denied exactly by the kind that its topic's standing has for that time,
 -- or allowed (`kind-exact`, `allowed-exact`). A denied one leaves the standing as it was (`tries-stay`), but for a newcomer's, which gets the place of the oldest (`newcomer-stands`,
 -- `newcomer-takes`). And the tokens left are those of the bucket that it leaves (`left-tokens`). Assumes nothing.
-use mathlib.Core.Bool.{Bool, true, false, cond, not, _&&_, _||_, false≢true, true≢false}
+use mathlib.Core.Bool.{Bool, true, false, cond, not}
 use mathlib.Core.List.{List}
 use mathlib.Core.Path.{_≡_, refl, sym, ap, _∙_}
 use Prim.Native.Nat.{ℕ, _+_, _/_, _≤_, _<_}
@@ -12,10 +12,8 @@ use lib.ListN.{length, take, getD, set, length-take}
 use Rattle.laws.proofs.Cases.{by}
 use Rattle.laws.proofs.Every.{every-at}
 use Rattle.laws.proofs.Tests.{both}
-use Rattle.laws.specs.Lists.{every, none}
-use Rattle.topics.specs.Matching.{matchesBy}
+use Rattle.laws.specs.Lists.{none}
 use Rattle.topics.specs.Names.{badPublish}
-use Rattle.topics.specs.declared.matching.Matching.{Matching}
 use Rattle.tables.specs.Buckets.{noBucket, bucketFine, holdsBucket, made, decide}
 use Rattle.tables.specs.Identity.{idOf}
 use Rattle.tables.specs.Scan.{find}
@@ -32,12 +30,12 @@ use Rattle.monitor.specs.Gate.{isBlock, rulingOf, gateAfter, gateOf}
 use Rattle.monitor.specs.Inspect.{inspectRefusal, inspectWith}
 use Rattle.monitor.specs.Message.{typeNumber, usedTopic, usedPayload}
 use Rattle.monitor.specs.Plan.{seenOf, spentOf, denialOf, limiterKind, gateIn, planFrom, planOf, findingsIn}
-use Rattle.monitor.specs.Standing.{aPublish, standsAt, limitedBy, standingBy, standingWith, standingIn, kindAt, leftBy, leftIn}
+use Rattle.monitor.specs.Standing.{aPublish, standsAt, standingBy, standingWith, kindAt, leftBy, leftIn}
 use Rattle.monitor.specs.State.{wellFormed, matcherOf}
 use Rattle.monitor.specs.declared.gate.Gate.{Gate}
 use Rattle.monitor.specs.declared.message.MqttMessage.{MqttMessage}
 use Rattle.monitor.specs.declared.state.MqttMonitor.{MqttMonitor}
-use Rattle.monitor.proofs.Link.{SameRules, rules-stay, asked}
+use Rattle.monitor.proofs.Link.{rules-stay, asked}
 use Rattle.monitor.proofs.state.FormedLaws.{formed-parts}
 use Rattle.monitor.proofs.state.KeptFormed.{kept-formed}
 

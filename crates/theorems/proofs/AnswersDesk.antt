@@ -1,5 +1,5 @@
 -- Each promise of `desk` leaves one answer and asks nothing (specs/One.antt). Assumes nothing.
-use mathlib.Core.Path.{refl, sym, _∙_}
+use mathlib.Core.Path.{sym, _∙_}
 use denote.Ref.{now}
 use Rattle.desk.proofs.standing.hub_standing as standing-hub-standing
 use Rattle.desk.proofs.standing.hub_standing.Reads as standing-hub-standing-reads

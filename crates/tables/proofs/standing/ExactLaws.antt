@@ -19,7 +19,6 @@ use Rattle.tables.specs.declared.identity.Id.{Id}
 use Rattle.tables.specs.declared.buckets.RateBucket.{RateBucket}
 use Rattle.tables.specs.declared.buckets.RateCheckResult.the-variants.{Allowed, Limited, EvictedAndDenied}
 use Rattle.tables.specs.declared.buckets.Spent.{Spent}
-use Rattle.tables.specs.declared.standing.Opening.the-variants.{Never, From}
 use Rattle.tables.proofs.ScanLaws.{find-lt, find-before, find-none, place-lt, least-at, seat-free, seat-least, seat-lt}
 use Rattle.tables.proofs.buckets.BucketLaws.{keeps}
 use Rattle.tables.proofs.buckets.PlaceLaws.{timeOf, isFree, isOpen, newcomer-put}

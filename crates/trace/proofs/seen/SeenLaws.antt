@@ -2,11 +2,11 @@
 -- (`sent-stop`); they are those of the trace from its first place on (`first-messages`). What a loop looks for is then found here, or among the others. Assumes nothing.
 use Prim.Native.Nat.{ℕ, zero, suc, _+_, _≤_, _<_}
 use mathlib.Core.Path.{_≡_, refl, sym, ap, _∙_}
-use mathlib.Core.Bool.{Bool, true, false, _&&_, _||_}
+use mathlib.Core.Bool.{Bool, true, false, _&&_}
 use mathlib.Core.List.{List, [], _∷_}
 use native.Mathlib.Omega.{arith}
 use lib.Dec.{eqb, leb}
-use lib.ListN.{length, take}
+use lib.ListN.{length}
 use borrow.Author.Tests.{eqb-true, eq-eqb, ne-eqb}
 use Rattle.laws.proofs.Cases.{by}
 use Rattle.slices.specs.Bytes.{same}
@@ -21,15 +21,13 @@ use Rattle.monitor.specs.Runs.{Call, shipped, afterBy}
 use Rattle.monitor.specs.State.{matcherOf, withRules}
 use Rattle.monitor.specs.declared.inspection.Inspected.{Inspected}
 use Rattle.monitor.specs.declared.state.MqttMonitor.{MqttMonitor}
-use Rattle.trace.specs.Groups.{messageAt, topicIn, payloadIn, topicKept}
+use Rattle.trace.specs.Groups.{messageAt, topicIn, payloadIn}
 use Rattle.trace.specs.Seen.{sentFrom, firstPlace, lastTime, endState, seenIn, namedBy, isPublish, isNamed}
 use Rattle.trace.specs.Trace.{Messages, endedBy, loaded, rulesOf, messagesFrom, messagesOf}
 use Rattle.trace.specs.declared.groups.MessageLines.{MessageLines}
 use Rattle.trace.specs.declared.run.LoadedRules.{LoadedRules}
-use Rattle.trace.specs.declared.seen.Seen.{Seen}
 use Rattle.trace.proofs.Bound.{loaded-few, loaded-short}
-use Rattle.trace.proofs.groups.GroupLaws.{message-further, message-within}
-use Rattle.trace.proofs.run.BufferLaws.{topic-part}
+use Rattle.trace.proofs.groups.GroupLaws.{message-further}
 use Rattle.trace.proofs.run.RunLaws.{left, left-turn, left-end, left-stop, sentAt, loaded-messages, monitor-is, choice, number-is, line-is, next-is, unloaded-messages}
 
 -- which messages there are does not depend on how many lines came before them
@@ -63,12 +61,6 @@ module _ (s : List ℕ) where
   -- none after a refused line
   pub sent-stop : {at : ℕ} {r : MessageLines} → at < length s → r ≡ messageAt s at → (r .number ≡ 0 → ⊥) → sentFrom s at ≡ []
   sent-stop h e z = ap (λ (ms : Messages). ms .sent) (left-stop s 0 h e z)
-
-  -- its topic, in a buffer that its reader was lent
-  pub topic-here : (at : ℕ) {r : MessageLines} (d : List ℕ) {e : List ℕ} → r ≡ messageAt s at → r .number ≡ 0 → length d ≡ 128 → e ≡ topicKept s at d
-      → (take (r .msg .«topic_len») e ≡ sentAt s at .topic) × (r .msg .«topic_len» ≤ 128) × (length e ≡ 128)
-  topic-here at d q z l k =
-      let p = topic-part s at d q z l k in (rw (← q) (p .0), message-within s at q .topicLong .1, p .2)
 
 -- the messages of a trace are those from its first place on
 pub first-messages : (matching : Matching) (s : List ℕ) → sentFrom s (firstPlace matching s) ≡ messagesOf matching s .sent

@@ -1,9 +1,9 @@
 -- A pass over lines, which writes them or only counts them: what is left to go out (`Passing`) begins with all of it (`passing-start`), goes on behind a part (`passing-turn`), for which there is
 -- room (`passing-room`), and ends with nothing left (`passing-done`). Then the lines of each kind, part by part. Assumes nothing.
-use Prim.Native.Nat.{ℕ, zero, suc, _+_, _-_, _*_, _^_, _≤_, _<_}
+use Prim.Native.Nat.{ℕ, zero, suc, _+_, _-_, _^_, _≤_, _<_}
 use mathlib.Core.Bool.{Bool, true, false}
 use mathlib.Core.List.{List, [], _∷_, _++_}
-use mathlib.Core.Path.{_≡_, refl, sym, ap, _∙_}
+use mathlib.Core.Path.{_≡_, refl, ap, _∙_}
 use native.Mathlib.Omega.{arith}
 use borrow.Author.Tests.{eq-eqb, ne-eqb, le-leb, lt-leb, lt-ltb, le-ltb}
 use lib.ListN.{length, take, drop, getD, set, length-append}
@@ -30,7 +30,7 @@ use Rattle.trace.specs.Standing.{nameText, placesText, topicText, messag
 use Rattle.trace.specs.Trace.{putIf}
 use Rattle.trace.specs.declared.groups.MessageLines.{MessageLines}
 use Rattle.trace.specs.declared.seen.Seen.{Seen}
-use Rattle.trace.proofs.run.RunLaws.{sentAt, put-then, put-long}
+use Rattle.trace.proofs.run.RunLaws.{put-then, put-long}
 use Rattle.trace.proofs.seen.SeenLaws.{sent-read, sent-end, sent-stop, first-messages, first-short}
 
 -- a pass over `total`, which began at `at` of the buffer `d₀`, has `rest` left: `d` is its buffer, `p` its place there

@@ -1,5 +1,5 @@
 -- `standing::standing` meets its contract: one law for each of its answers. Assumes nothing.
-use mathlib.Core.Path.{_≡_, _∙_}
+use mathlib.Core.Path.{_∙_}
 use native.Mathlib.Omega.{arith}
 use borrow.Author.Needs.{needs}
 use Rattle.monitor.specs.declared.state.MqttMonitor.{MqttMonitor}

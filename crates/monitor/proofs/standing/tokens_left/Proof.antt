@@ -1,6 +1,5 @@
 -- `standing::tokens_left` meets its contract: the same refusals, then what the limiter would store. Assumes nothing.
-use mathlib.Core.Path.{_≡_, _∙_}
-use native.Mathlib.Omega.{arith}
+use mathlib.Core.Path.{_∙_}
 use borrow.Author.Needs.{needs}
 use Rattle.monitor.specs.declared.state.MqttMonitor.{MqttMonitor}
 use Rattle.monitor.proofs.standing.StandingLaws.{leaves-10, leaves-9, leaves-barred, leaves-tokens}

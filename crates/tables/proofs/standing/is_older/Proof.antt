@@ -1,7 +1,4 @@
 -- `standing::is_older` meets its contract. Assumes nothing.
-use mathlib.Core.Bool.{_||_}
-use lib.Dec.{eqb, leb}
-use borrow.Author.Needs.{needs}
 use borrow.Author.Tests.{eq-eqb, ne-eqb}
 use Rattle.laws.proofs.Tests.{guard-off, guard-on}
 use Rattle.tables.proofs.standing.is_older.Statement.{statement}

@@ -1,5 +1,4 @@
 -- `trace::seen::names` meets its contract. Assumes nothing.
-use mathlib.Core.Path.{_≡_}
 use borrow.Author.Needs.{needs}
 use borrow.Author.Tests.{eq-eqb, ne-eqb}
 use Rattle.trace.proofs.seen.names.Statement.{statement}

@@ -1,8 +1,8 @@
 -- `trace::seen::see_all` meets its contract. The invariant: the messages that are left bring the monitor, the last time, the number and the line to those of the whole trace (SeenLaws, `Seeing`), and
 -- the two buffers keep their lengths; the measure: the bytes of the text that are left. The loop knows the matcher from the monitor that it began with. Assumes nothing.
-use Prim.Native.Nat.{ℕ, _+_, _-_, _≤_}
+use Prim.Native.Nat.{ℕ, _-_, _≤_}
 use mathlib.Core.List.{List}
-use mathlib.Core.Path.{_≡_, sym, ap, _∙_}
+use mathlib.Core.Path.{_≡_, sym, ap}
 use native.Mathlib.Omega.{arith}
 use lib.ListN.{length, take}
 use lib.Seq.{length-take-le}
@@ -11,7 +11,6 @@ use Rattle.monitor.specs.Calls.{fresh}
 use Rattle.monitor.specs.declared.state.MqttMonitor.{MqttMonitor}
 use Rattle.trace.specs.Groups.{topicIn, payloadIn}
 use Rattle.trace.specs.Seen.{firstPlace}
-use Rattle.trace.specs.Trace.{endedBy}
 use Rattle.trace.specs.declared.groups.MessageLines.{MessageLines}
 use Rattle.trace.proofs.run.BufferLaws.{topic-part, payload-part}
 use Rattle.trace.proofs.run.RunLaws.{left, left-end, left-stop, read-further}

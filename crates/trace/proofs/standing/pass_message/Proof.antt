@@ -1,6 +1,5 @@
 -- `trace::standing::pass_message` meets its contract: the three tests, then the topic's lines. Assumes nothing.
-use mathlib.Core.List.{List}
-use mathlib.Core.Path.{_≡_, sym}
+use mathlib.Core.Path.{_≡_}
 use native.Mathlib.Omega.{arith}
 use borrow.Author.Needs.{needs}
 use Rattle.trace.specs.Seen.{sentFrom}

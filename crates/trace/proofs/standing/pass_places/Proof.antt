@@ -1,8 +1,8 @@
 -- `trace::standing::pass_places` meets its contract. The invariant: what is left to go out are the places of the buckets that are left, at most `left` of them; each takes at most 397 bytes. The
 -- measure is `left`. Assumes nothing.
-use Prim.Native.Nat.{ℕ, suc, _+_, _-_, _*_, _≤_, _<_}
+use Prim.Native.Nat.{ℕ, _+_, _-_, _*_, _≤_}
 use mathlib.Core.List.{List, _++_}
-use mathlib.Core.Path.{_≡_, sym, ap, _∙_}
+use mathlib.Core.Path.{_≡_, sym, _∙_}
 use native.Mathlib.Omega.{arith}
 use lib.ListN.{length, take, set, length-set}
 use lib.Seq.{length-take-le}
@@ -10,9 +10,8 @@ use borrow.Author.Needs.{needs}
 use Rattle.slices.specs.Bytes.{bytes}
 use Rattle.tables.specs.Buckets.{emptyBucket}
 use Rattle.tables.specs.Standing.{oldestFirst}
-use Rattle.tables.specs.declared.buckets.RateBucket.{RateBucket}
 use Rattle.monitor.specs.Runs.{Call}
-use Rattle.trace.specs.Seen.{sentFrom, namedBy}
+use Rattle.trace.specs.Seen.{sentFrom}
 use Rattle.trace.specs.Standing.{nameText, placesText}
 use Rattle.trace.proofs.standing.PassLaws.{Passing, passing-start, passing-room, passing-turn, passing-done, passing-bytes, places-turn, places-stop, places-none}
 use Rattle.trace.proofs.standing.pass_places.Statement.{statement}

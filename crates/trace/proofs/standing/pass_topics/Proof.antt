@@ -1,8 +1,8 @@
 -- `trace::standing::pass_topics` meets its contract. The invariant: what is left to go out are the topics of the messages that are left; a message takes 44 bytes of the text or more, and its topic
 -- at most 490 of the buffer. The measure: the bytes of the text that are left. Assumes nothing.
-use Prim.Native.Nat.{ℕ, _+_, _-_, _*_, _≤_, _<_}
+use Prim.Native.Nat.{ℕ, _+_, _-_, _*_, _≤_}
 use mathlib.Core.List.{List, _++_}
-use mathlib.Core.Path.{_≡_, sym, _∙_}
+use mathlib.Core.Path.{_≡_, sym}
 use native.Mathlib.Omega.{arith}
 use lib.Dec.{ltb}
 use lib.ListN.{length, take}
