@@ -1,4 +1,4 @@
-mod NumberLaws
+pub mod NumberLaws
 pub mod PlanLaws
 pub mod RuleLaws
 mod ShadowLaws

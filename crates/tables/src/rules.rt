@@ -152,7 +152,7 @@ pub fn check_qos_policy(policy: QosPolicy, actual: MqttQoS) -> bool
 }
 
 // How many bytes a pattern has: a state that is handed in may claim more than there are.
-fn used(pattern_len: u8) -> usize
+pub fn used(pattern_len: u8) -> usize
     ensures { λ r. ⌜ r ≡ min «pattern_len» 64 ⌝ }
 {
     let n = pattern_len as usize;

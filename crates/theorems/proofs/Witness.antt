@@ -27,7 +27,8 @@ use Rattle.monitor.specs.Inspect.{applied, inspectRefusal, inspectWith}
 use Rattle.monitor.specs.Plan.{seenOf, spentOf, fedOf, denialOf, planFrom, planOf}
 use Rattle.monitor.specs.Runs.{repliesBy}
 use Rattle.monitor.specs.State.{wellFormed}
-use Rattle.trace.specs.Groups.{openingOf, opening1, opening2, ruleAt, rule1, rule2, rule3, rule4, messageAt, message1, message2, message3, message4, message5, message6, message7}
+use Rattle.rules_text.specs.RuleGroup.{ruleAt, rule1, rule2, rule3, rule4}
+use Rattle.trace.specs.Groups.{openingOf, opening1, opening2, messageAt, message1, message2, message3, message4, message5, message6, message7}
 use Rattle.trace.specs.Trace.{ruleInto, rulesInto, loadedFrom, loaded, messagesFrom, messagesOf}
 use Rattle.theorems.specs.Printed.{passedOf, topicRate}
 use Rattle.theorems.specs.Run.{later, single, firstRate}

@@ -22,10 +22,12 @@ use Rattle.monitor.specs.Runs.{Call}
 use Rattle.monitor.specs.State.{wellFormed, matcherOf, numberOf}
 use Rattle.monitor.specs.declared.state.Called.{Called}
 use Rattle.monitor.specs.declared.state.MqttMonitor.{MqttMonitor}
-use Rattle.trace.specs.Groups.{openingOf, ruleAt, messageAt}
+use Rattle.rules_text.specs.RuleGroup.{ruleAt}
+use Rattle.trace.specs.Groups.{openingOf, messageAt}
 use Rattle.trace.specs.Trace.{Loaded, Messages, ruleInto, rulesInto, loadedFrom, loaded, messagesFrom, messagesOf, textFrom, traceText, enough}
 use Rattle.trace.proofs.record.RecordLaws.{closing-short}
-use Rattle.trace.proofs.groups.GroupLaws.{opening-within, opening-further, rule-within, rule-further, message-within, message-further}
+use Rattle.rules_text.proofs.read.RuleLaws.{rule-within, rule-further}
+use Rattle.trace.proofs.groups.GroupLaws.{opening-within, opening-further, message-within, message-further}
 use Rattle.trace.proofs.PlanBounds.{Counted, applied-counted, result-short}
 
 -- the text of so many messages

@@ -1,4 +1,3 @@
 pub mod AsRun
 pub mod Bound
-mod LineBounds
 mod PlanBounds

@@ -1,4 +1,4 @@
--- Document 01, "The trace": the lines of a trace in their fixed order, group by group. Each line is one field of `lines`, which decides 26, 21 and the value's own number; a group
+-- Document 01, "The trace": the lines of a trace in their fixed order, group by group; a rule's are in `rules_text`. Each line is one field of `lines`, which decides 26, 21 and the value's own number; a group
 -- stops at its first refused line. `line` says which line of its group that is, the first being 0; of a group that was read it is the last.
 -- Assumes nothing.
 use mathlib.Core.Bool.{true, cond}
@@ -12,15 +12,13 @@ use Rattle.lines.specs.Field.{numberField, wordField, hexField, hexKept}
 use Rattle.lines.specs.ReadHex.{unhex}
 use Rattle.lines.specs.Span.{part}
 use Rattle.lines.specs.declared.read.Field.{Field}
-use Rattle.tables.specs.Numbers.{actionAt, qosAt, policyAt}
+use Rattle.tables.specs.Numbers.{actionAt, qosAt}
 use Rattle.tables.specs.declared.rules.MqttQoS.the-variants.{AtMostOnce}
-use Rattle.tables.specs.declared.rules.QosPolicy.the-variants.{Any}
 use Rattle.tables.specs.declared.rules.TopicAction.the-variants.{Allow}
 use Rattle.monitor.specs.Message.{typeAt}
 use Rattle.monitor.specs.declared.message.MqttMessage.{MqttMessage}
 use Rattle.monitor.specs.declared.message.MqttPacketType.the-variants.{Connect}
 use Rattle.trace.specs.declared.groups.OpeningLines.{OpeningLines}
-use Rattle.trace.specs.declared.groups.RuleLines.{RuleLines}
 use Rattle.trace.specs.declared.groups.MessageLines.{MessageLines}
 
 -- an opening that stopped: nothing of it counts but the number, the line and the place
@@ -38,50 +36,6 @@ opening1 s d = cond (eqb (d .number) 0) (opening2 d (numberField s (d .next) (by
 -- the opening, lines 1 and 2
 unfoldable pub openingOf : List ℕ → OpeningLines
 openingOf s = opening1 s (wordField s 0 (bytes "default=") (bytes "allow|block"))
-
--- a rule that stopped at a line
-abbrev pub ruleStopped : Field → ℕ → RuleLines
-ruleStopped f line =
-    record
-    { number = f .number; line = line; next = f .next; «pattern_from» = 0; «pattern_to» = 0; action = Allow; «qos_policy» = Any; rate = 0 }
-
--- `pattern=` hex, `action=allow|block`, `qos=any|min0..min2|only0..only2`, `rate=` 0..65535
-unfoldable pub rule4 : Field → Field → Field → Field → RuleLines
-rule4 p a q r =
-    cond (eqb (r .number) 0)
-    (record {
-      number = 0;
-      line = 3;
-      next = r .next;
-      «pattern_from» = p .from;
-      «pattern_to» = p .to;
-      action = actionAt (a .value);
-      «qos_policy» = policyAt (q .value);
-      rate = r .value;
-    })
-    (ruleStopped r 3)
-
-unfoldable pub rule3 : List ℕ → Field → Field → Field → RuleLines
-rule3 s p a q =
-    cond (eqb (q .number) 0) (rule4 p a q (numberField s (q .next) (bytes "rate=") 0 65535)) (ruleStopped q 2)
-
-unfoldable pub rule2 : List ℕ → Field → Field → RuleLines
-rule2 s p a =
-    cond (eqb (a .number) 0)
-    (rule3 s p a (wordField s (a .next) (bytes "qos=") (bytes "any|min0|min1|min2|only0|only1|only2")))
-    (ruleStopped a 1)
-
-unfoldable pub rule1 : List ℕ → Field → RuleLines
-rule1 s p =
-    cond (eqb (p .number) 0) (rule2 s p (wordField s (p .next) (bytes "action=") (bytes "allow|block"))) (ruleStopped p 0)
-
--- the rule at a place of the text
-unfoldable pub ruleAt : List ℕ → ℕ → RuleLines
-ruleAt s at = rule1 s (hexField s at (bytes "pattern=") 128)
-
--- its pattern
-abbrev pub patternIn : List ℕ → RuleLines → List ℕ
-patternIn s r = unhex (part s (r .«pattern_from») (r .«pattern_to»))
 
 -- a message without anything
 abbrev pub noMessage : MqttMessage
@@ -192,10 +146,6 @@ topicIn s g = unhex (part s (g .«topic_from») (g .«topic_to»))
 abbrev pub payloadIn : List ℕ → MessageLines → List ℕ
 payloadIn s g = unhex (part s (g .«payload_from») (g .«payload_to»))
 
--- the buffer of a rule's pattern after it was read
-abbrev pub patternKept : List ℕ → ℕ → List ℕ → List ℕ
-patternKept s at d = hexKept s at (bytes "pattern=") d
-
 -- a buffer after a line and those that follow it: where the line is refused they are not read, and it is as it was
 abbrev pub keptAfter : Field → List ℕ → List ℕ → List ℕ
 keptAfter f kept d = cond (eqb (f .number) 0) kept d
@@ -244,15 +194,6 @@ pub record OpeningIn (s : List ℕ) (o : OpeningLines) : Type 0 where
   pub line : o .line ≤ 1
   pub known : o .number ≤ 26
   pub count : o .rules ≤ 32
-
--- a rule lies in its text, and so does its pattern, which is at most 128 bytes
-pub record RuleIn (s : List ℕ) (r : RuleLines) : Type 0 where
-  pub after : r .next ≤ length s
-  pub line : r .line ≤ 3
-  pub known : r .number ≤ 26
-  pub ordered : r .«pattern_from» ≤ r .«pattern_to»
-  pub inside : r .«pattern_to» ≤ length s
-  pub short : length (patternIn s r) ≤ 128
 
 -- a message lies in its text, and so do its topic and its payload, which are as long as it says, at most 128 and 256 bytes
 pub record MessageIn (s : List ℕ) (g : MessageLines) : Type 0 where

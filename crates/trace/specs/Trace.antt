@@ -16,10 +16,11 @@ use Rattle.monitor.specs.Runs.{Call}
 use Rattle.monitor.specs.State.{matcherOf, numberOf}
 use Rattle.monitor.specs.declared.plan.Plan.{Plan}
 use Rattle.monitor.specs.declared.state.MqttMonitor.{MqttMonitor}
-use Rattle.trace.specs.Groups.{openingOf, ruleAt, patternIn, messageAt, topicIn, payloadIn}
+use Rattle.rules_text.specs.RuleGroup.{ruleAt, patternIn}
+use Rattle.trace.specs.Groups.{openingOf, messageAt, topicIn, payloadIn}
 use Rattle.trace.specs.Record.{recordText, closingText}
 use Rattle.trace.specs.declared.groups.OpeningLines.{OpeningLines}
-use Rattle.trace.specs.declared.groups.RuleLines.{RuleLines}
+use Rattle.rules_text.specs.declared.read.RuleLines.{RuleLines}
 use Rattle.trace.specs.declared.run.LoadedRules.{LoadedRules}
 use Rattle.trace.specs.declared.run.TraceEnd.{TraceEnd}
 

@@ -2,7 +2,6 @@
 // message.
 use crate::groups::read_message;
 use crate::groups::read_opening;
-use crate::groups::read_rule;
 use crate::record::closing_len;
 use crate::record::put_closing;
 use crate::record::put_record;
@@ -20,6 +19,7 @@ use monitor::plan::seen_for;
 use monitor::plan::spent_for;
 use monitor::state::MqttMonitor;
 use monitor::state::free_rules;
+use rules_text::read::read_rule;
 use tables::buckets::BUCKETS;
 use tables::rules::RULES;
 use tables::rules::TopicAction;

@@ -1,6 +1,6 @@
--- What holds of every group of lines, on its definition. A group stopped at a refused line or was read whole: `opening-cases`, `rule-cases` and `message-cases`
--- go by these cases. So it lies in its text, its parts are as long as it says (`opening-within`, `rule-within`, `message-within`), and one that was read takes
--- at least the bytes of its keys and LFs: 16 for an opening, 44 for a message (`opening-further`, `rule-further`, `message-further`). Assumes nothing.
+-- What holds of every group of lines, on its definition. A group stopped at a refused line or was read whole: `opening-cases` and `message-cases`
+-- go by these cases. So it lies in its text, its parts are as long as it says (`opening-within`, `message-within`), and one that was read takes
+-- at least the bytes of its keys and LFs: 16 for an opening, 44 for a message (`opening-further`, `message-further`). Assumes nothing.
 use Prim.Native.Nat.{ℕ, _+_, _≤_}
 use mathlib.Core.Path.{_≡_}
 use mathlib.Core.Bool.{cond}
@@ -13,17 +13,12 @@ use Rattle.slices.specs.Bytes.{bytes}
 use Rattle.lines.specs.Field.{numberField, wordField, hexField}
 use Rattle.lines.specs.ReadHex.{unhex}
 use Rattle.lines.specs.declared.read.Field.{Field}
-use Rattle.trace.specs.Groups.{openingStopped, opening1, opening2, openingOf, OpeningIn, ruleStopped, rule1, rule2, rule3, rule4, ruleAt, RuleIn}
+use Rattle.trace.specs.Groups.{openingStopped, opening1, opening2, openingOf, OpeningIn}
 use Rattle.trace.specs.Groups.{messageStopped, message1, message2, message3, message4, message5, message6, message7, messageAt, MessageIn}
 use Rattle.trace.specs.Groups.{atLine, clockLine, typeLine, qosLine, topicLine, sizeLine, payloadLine}
 use Rattle.trace.specs.declared.groups.MessageLines.{MessageLines}
 use Rattle.trace.specs.declared.groups.OpeningLines.{OpeningLines}
-use Rattle.trace.specs.declared.groups.RuleLines.{RuleLines}
-use Rattle.trace.proofs.LineBounds.{Answer, number-lies, word-lies, hex-lies, number-value, hex-value}
-
--- a group goes on after a line that was read, and stopped at one that was refused
-either : {A : Type 0} (P : A → Type 0) (f : Field) {g stop : A} → (f .number ≡ 0 → P g) → ((f .number ≡ 0 → ⊥) → P stop) → P (cond (eqb (f .number) 0) g stop)
-either P f p q = by (eqb (f .number) 0) (λ t. rw t (p (eqb-true _ _ t))) (λ t. rw t (q (eqb-false _ _ t)))
+use Rattle.forms.proofs.LineBounds.{Answer, either, number-lies, word-lies, hex-lies, number-value, hex-value}
 
 module _ (s : List ℕ) where
   -- the lines of an opening
@@ -65,75 +60,6 @@ module _ (s : List ℕ) where
       let a = word-lies s 0 (bytes "default=") (bytes "allow|block") .further d in
       let b = number-lies s (defaultOf .next) (bytes "rules=") 0 32 .further r in
       rw (eq-eqb _ _ r) (omega arith))
-
-module _ (s : List ℕ) (at : ℕ) where
-  -- the lines of a rule
-  abbrev pub patternOf : Field
-  patternOf = hexField s at (bytes "pattern=") 128
-
-  abbrev pub actionOf : Field
-  actionOf = wordField s (patternOf .next) (bytes "action=") (bytes "allow|block")
-
-  abbrev pub policyOf : Field
-  policyOf = wordField s (actionOf .next) (bytes "qos=") (bytes "any|min0|min1|min2|only0|only1|only2")
-
-  abbrev pub rateOf : Field
-  rateOf = numberField s (policyOf .next) (bytes "rate=") 0 65535
-
-  -- all of them were read
-  pub record RuleRead : Type 0 where
-    pub pattern : patternOf .number ≡ 0
-    pub action : actionOf .number ≡ 0
-    pub policy : policyOf .number ≡ 0
-    pub rate : rateOf .number ≡ 0
-
-  pub rule-cases : (P : RuleLines → Type 0)
-      → ((f : Field) (k : ℕ) → Answer s f → k ≤ 3 → (f .number ≡ 0 → ⊥) → P (ruleStopped f k))
-      → (RuleRead → P (rule4 patternOf actionOf policyOf rateOf)) → P (ruleAt s at)
-  unfolding ruleAt rule1 rule2 rule3 rule4
-  rule-cases P stop read =
-      either P patternOf
-      (λ p.
-      either P actionOf
-      (λ a.
-      either P policyOf
-      (λ q.
-      either P rateOf (λ r. rw (eq-eqb _ _ r) at (read (record { pattern = p; action = a; policy = q; rate = r })))
-      (stop rateOf 3 (number-lies s (policyOf .next) (bytes "rate=") 0 65535 .answer) (omega arith)))
-      (stop policyOf 2 (word-lies s (actionOf .next) (bytes "qos=") (bytes "any|min0|min1|min2|only0|only1|only2") .answer) (omega arith)))
-      (stop actionOf 1 (word-lies s (patternOf .next) (bytes "action=") (bytes "allow|block") .answer) (omega arith)))
-      (stop patternOf 0 (hex-lies s at (bytes "pattern=") 128 .answer) (omega arith))
-
-  pub rule-within : {r : RuleLines} → r ≡ ruleAt s at → RuleIn s r
-  unfolding rule4 unhex
-  rule-within e =
-      rw e
-      (rule-cases (RuleIn s)
-      (λ f k w h z. record { after = w .within .after; line = h; known = w .known; ordered = omega arith; inside = omega arith; short = omega arith })
-      (λ r.
-      let w = hex-lies s at (bytes "pattern=") 128 .answer .within in
-      let v = hex-value s at (bytes "pattern=") 128 (r .pattern) in
-      rw (eq-eqb _ _ (r .rate))
-      (record {
-        after = number-lies s (policyOf .next) (bytes "rate=") 0 65535 .answer .within .after;
-        line = omega arith;
-        known = omega arith;
-        ordered = w .ordered;
-        inside = w .inside;
-        short = omega (arith, v);
-      })))
-
-  -- a rule that was read lies further on
-  pub rule-further : ruleAt s at .number ≡ 0 → at ≤ ruleAt s at .next
-  unfolding rule4
-  rule-further =
-      rule-cases (λ (r : RuleLines). r .number ≡ 0 → at ≤ r .next) (λ f k w h z e. absurd (z e))
-      (λ r e.
-      let a = hex-lies s at (bytes "pattern=") 128 .further (r .pattern) in
-      let b = word-lies s (patternOf .next) (bytes "action=") (bytes "allow|block") .further (r .action) in
-      let c = word-lies s (actionOf .next) (bytes "qos=") (bytes "any|min0|min1|min2|only0|only1|only2") .further (r .policy) in
-      let d = number-lies s (policyOf .next) (bytes "rate=") 0 65535 .further (r .rate) in
-      rw (eq-eqb _ _ (r .rate)) (omega arith))
 
 module _ (s : List ℕ) (at : ℕ) where
   -- the lines of a message

@@ -1,5 +1,5 @@
 -- What the lent buffers of a group hold at exit, for whoever goes on from them: where the group was read they begin with its bytes
--- (`pattern-part`, `topic-part`, `payload-part`), and they are as long as before. Assumes nothing.
+-- (`topic-part`, `payload-part`), and they are as long as before. Assumes nothing.
 use Prim.Native.Nat.{ℕ, _-_, _/_, _≤_}
 use mathlib.Core.Path.{_≡_, _∙_}
 use mathlib.Core.List.{List}
@@ -12,26 +12,13 @@ use Rattle.lines.specs.ReadHex.{unhex}
 use Rattle.lines.specs.Span.{part}
 use Rattle.lines.proofs.HexRound.{unhex-length}
 use Rattle.lines.proofs.read.KeptLaws.{kept-bytes, kept-long}
-use Rattle.trace.specs.Groups.{rule4, ruleAt, patternIn, patternKept, message7, messageAt, topicIn, topic1, topic2, topic3, topic4, topicKept}
+use Rattle.trace.specs.Groups.{message7, messageAt, topicIn, topic1, topic2, topic3, topic4, topicKept}
 use Rattle.trace.specs.Groups.{payloadIn, payload1, payload2, payload3, payload4, payload5, payload6, payloadKept}
 use Rattle.trace.specs.declared.groups.MessageLines.{MessageLines}
-use Rattle.trace.specs.declared.groups.RuleLines.{RuleLines}
-use Rattle.trace.proofs.LineBounds.{hex-value}
-use Rattle.trace.proofs.groups.GroupLaws.{rule-cases, rule-within, message-cases, message-within, AllRead, qosOf, sizeOf}
-
--- a line of hex that was read: the buffer begins with its bytes
-kept : (s : List ℕ) (at : ℕ) (key d : List ℕ) {room : ℕ} → length d ≡ room → hexField s at key room .number ≡ 0
-    → take (hexField s at key room .value) (hexKept s at key d) ≡ unhex (valueOf s (hexField s at key room))
-kept s at key d l e = rw (← l) (kept-bytes s at key d (rw (← l) at e))
+use Rattle.forms.proofs.LineBounds.{kept}
+use Rattle.trace.proofs.groups.GroupLaws.{message-cases, message-within, AllRead, qosOf, sizeOf}
 
 module _ (s : List ℕ) (at : ℕ) (d : List ℕ) where
-  pattern-bytes : length d ≡ 128 → ruleAt s at .number ≡ 0 → take (length (patternIn s (ruleAt s at))) (patternKept s at d) ≡ patternIn s (ruleAt s at)
-  unfolding rule4
-  pattern-bytes l =
-      rule-cases s at (λ (r : RuleLines). r .number ≡ 0 → take (length (patternIn s r)) (patternKept s at d) ≡ patternIn s r)
-      (λ f k w h z e. absurd (z e))
-      (λ r e. rw (eq-eqb _ _ (r .rate), hex-value s at (bytes "pattern=") 128 (r .pattern) .0) (kept s at (bytes "pattern=") d l (r .pattern)))
-
   module _ (r : AllRead s at) where
     topic-kept : topicKept s at d ≡ hexKept s (qosOf s at .next) (bytes "topic=") d
     unfolding topicKept topic1 topic2 topic3 topic4
@@ -65,17 +52,7 @@ module _ (s : List ℕ) (at : ℕ) (d : List ℕ) where
   payload-long : messageAt s at .number ≡ 0 → length (payloadKept s at d) ≡ length d
   payload-long z = rw (payload-kept (all-read z)) (kept-long s (sizeOf s at .next) (bytes "payload=") d)
 
--- the pattern of a rule that was read is the first bytes of its buffer, which is as long as before
-pub pattern-part : (s : List ℕ) (at : ℕ) {r : RuleLines} (d : List ℕ) {e : List ℕ} {n : ℕ} → r ≡ ruleAt s at → r .number ≡ 0 → length d ≡ 128
-    → e ≡ patternKept s at d → n ≡ (r .«pattern_to» - r .«pattern_from») / 2 → (take n e ≡ patternIn s r) × (n ≤ length e) × (length e ≡ 128)
-pattern-part s at {r} d {e} {n} q z l k ne =
-    let w = rule-within s at q in
-    let u : length (patternIn s r) ≡ n =
-    unhex-length (part s (r .«pattern_from») (r .«pattern_to»)) ∙ (simp (length-take, length-drop) (omega (arith, w .inside, w .ordered))) in
-    let long : length e ≡ 128 = rw k (kept-long s at (bytes "pattern=") d ∙ l) in
-    (rw (← u, k, q) (pattern-bytes s at d l (rw q at z)), omega (arith, w .short), long)
-
--- so is the topic of a message that was read, and so is its payload
+-- the topic of a message that was read is the first bytes of its buffer, which is as long as before, and so is its payload
 module _ (s : List ℕ) (at : ℕ) {r : MessageLines} (d : List ℕ) {e : List ℕ} (q : r ≡ messageAt s at) (z : r .number ≡ 0) where
   pub topic-part : length d ≡ 128 → e ≡ topicKept s at d → (take (r .msg .«topic_len») e ≡ topicIn s r) × (r .msg .«topic_len» ≤ length e) × (length e ≡ 128)
   topic-part l k =

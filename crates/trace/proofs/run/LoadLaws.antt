@@ -26,10 +26,11 @@ use Rattle.monitor.specs.declared.state.MqttMonitor.{MqttMonitor}
 use Rattle.monitor.proofs.rule_calls.AddLaws.{add-number, add-takes, add-leaves}
 use Rattle.monitor.proofs.PlainLaws.{holding, no-rules, Plain, fresh-plain, add-plain, add-matching}
 use Rattle.monitor.proofs.SoundCalls.{sound-fresh, sound-add}
-use Rattle.trace.specs.Groups.{openingOf, ruleAt, patternIn}
+use Rattle.rules_text.specs.RuleGroup.{ruleAt, patternIn}
+use Rattle.trace.specs.Groups.{openingOf}
 use Rattle.trace.specs.Trace.{Loaded, notLoaded, ruleInto, rulesInto, loadedFrom, loaded, rulesOf}
 use Rattle.trace.specs.declared.groups.OpeningLines.{OpeningLines}
-use Rattle.trace.specs.declared.groups.RuleLines.{RuleLines}
+use Rattle.rules_text.specs.declared.read.RuleLines.{RuleLines}
 use Rattle.trace.specs.declared.run.LoadedRules.{LoadedRules}
 use Rattle.trace.proofs.groups.GroupLaws.{opening-within}
 

@@ -12,7 +12,7 @@ use Rattle.trace.specs.Groups.{topicLine, topicKept, topic1, topic2, top
 use Rattle.trace.specs.Groups.{payloadLine, payloadKept, payload1, payload2, payload3, payload4, payload5, payload6}
 use Rattle.trace.specs.declared.groups.MessageLines.{MessageLines}
 use Rattle.trace.proofs.groups.GroupLaws.{message-within}
-use Rattle.trace.proofs.LineBounds.{number-fits, hex-fits}
+use Rattle.forms.proofs.LineBounds.{number-fits, hex-fits}
 use borrow.Author.Needs.{needs}
 use Rattle.trace.proofs.groups.read_message.Statement.{statement}
 use Rattle.trace.proofs.groups.read_message.Tie as tie

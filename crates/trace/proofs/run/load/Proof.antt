@@ -8,10 +8,10 @@ use native.Mathlib.Omega.{arith}
 use lib.ListN.{length, take}
 use borrow.Author.Needs.{needs}
 use Rattle.tables.proofs.rules.PlanLaws.{plan-place}
-use Rattle.trace.specs.Groups.{patternIn}
-use Rattle.trace.specs.declared.groups.RuleLines.{RuleLines}
+use Rattle.rules_text.specs.RuleGroup.{patternIn}
+use Rattle.rules_text.specs.declared.read.RuleLines.{RuleLines}
 use Rattle.trace.proofs.run.LoadLaws.{Loading, load-long, load-none, load-start, load-stop, load-refused, load-turn, load-end}
-use Rattle.trace.proofs.run.BufferLaws.{pattern-part}
+use Rattle.rules_text.proofs.read.RuleLaws.{pattern-part}
 use Rattle.trace.proofs.run.load.Statement.{statement}
 use Rattle.trace.proofs.run.load.Tie as tie
 

@@ -1,17 +1,18 @@
 -- What holds of every line that is read at a place, on the definitions of `lines`: it lies in its text, and 26 is its highest number; one that was read ends
--- further on by its key and its LF at least, and its value is in range. Assumes nothing.
+-- further on by its key and its LF at least, its value is in range, and a lent buffer begins with the bytes of its hex. Assumes nothing.
 use Prim.Native.Nat.{ℕ, _+_, _%_, _≤_}
 use mathlib.Core.Path.{_≡_, refl, sym, ap, _∙_}
-use mathlib.Core.Bool.{_&&_}
+use mathlib.Core.Bool.{cond, _&&_}
 use mathlib.Core.List.{List}
 use native.Mathlib.Omega.{arith}
 use lib.Dec.{eqb, leb}
-use lib.ListN.{length}
+use lib.ListN.{length, take}
 use borrow.Author.Tests.{eqb-true, eqb-false}
 use Rattle.laws.specs.Lists.{every}
 use Rattle.laws.proofs.Cases.{by}
 use Rattle.slices.specs.Bytes.{begins, placeIn}
-use Rattle.lines.specs.Field.{Within, refused, read, keyed, lineAt, valueOf, onLine, answered, numberField, wordField, hexField}
+use Rattle.lines.specs.Field.{Within, refused, read, keyed, lineAt, valueOf, onLine, answered, numberField, wordField, hexField, hexKept}
+use Rattle.lines.specs.Line.{capped}
 use Rattle.lines.specs.ReadDecimal.{decimalOf}
 use Rattle.lines.specs.ReadHex.{isHex, unhex, hexCount, hexRefusal}
 use Rattle.lines.specs.ReadWord.{wordOf}
@@ -21,6 +22,7 @@ use Rattle.lines.specs.declared.value.Number.{Number}
 use Rattle.lines.specs.declared.value.Number.the-variants.{Value, Bad}
 use Rattle.lines.proofs.DecimalRound.{decimal-range}
 use Rattle.lines.proofs.read.FieldLaws.{within-refused, line-inside, line-room}
+use Rattle.lines.proofs.read.KeptLaws.{kept-bytes}
 use Rattle.lines.proofs.HexRound.{unhex-length}
 use Rattle.lines.proofs.value.HexLaws.{hex-taken}
 use Rattle.lines.proofs.held.SpanLaws.{span-whole}
@@ -137,3 +139,16 @@ module _ (s : List ℕ) (at : ℕ) (key : List ℕ) where
 
   pub hex-fits : {f : Field} (room : ℕ) → f ≡ hexField s at key room → f .number ≡ 0 → f .value ≤ room
   hex-fits room e z = rw e (hex-value room (rw e at z) .1)
+
+-- a group goes on after a line that was read, and stopped at one that was refused
+pub either : {A : Type 0} (P : A → Type 0) (f : Field) {g stop : A} → (f .number ≡ 0 → P g) → ((f .number ≡ 0 → ⊥) → P stop) → P (cond (eqb (f .number) 0) g stop)
+either P f p q = by (eqb (f .number) 0) (λ t. rw t (p (eqb-true _ _ t))) (λ t. rw t (q (eqb-false _ _ t)))
+
+-- a line of hex that was read: the buffer begins with its bytes
+pub kept : (s : List ℕ) (at : ℕ) (key d : List ℕ) {room : ℕ} → length d ≡ room → hexField s at key room .number ≡ 0
+    → take (hexField s at key room .value) (hexKept s at key d) ≡ unhex (valueOf s (hexField s at key room))
+kept s at key d l e = rw (← l) (kept-bytes s at key d (rw (← l) at e))
+
+-- a length that is handed back is the length itself, where no line is longer than a page
+pub uncapped : {p n : ℕ} → p ≡ capped n → n ≤ 10000 → p ≡ n
+uncapped e h = omega arith

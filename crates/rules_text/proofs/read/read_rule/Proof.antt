@@ -1,4 +1,4 @@
--- `trace::groups::read_rule` meets its contract: each line, read or refused, as the definition has them; the buffer is written by the first line alone. Assumes
+-- `rules_text::read::read_rule` meets its contract: each line, read or refused, as the definition has them; the buffer is written by the first line alone. Assumes
 -- nothing.
 use Prim.Native.Nat.{ℕ}
 use mathlib.Core.Path.{_≡_, refl, sym, _∙_}
@@ -7,13 +7,13 @@ use native.Mathlib.Omega.{arith}
 use lib.ListN.{length}
 use borrow.Author.Tests.{eq-eqb, ne-eqb}
 use Rattle.lines.specs.declared.read.Field.{Field}
-use Rattle.trace.specs.Groups.{RuleIn, ruleAt, rule1, rule2, rule3, rule4, patternKept}
-use Rattle.trace.specs.declared.groups.RuleLines.{RuleLines}
-use Rattle.trace.proofs.groups.GroupLaws.{rule-within}
-use Rattle.trace.proofs.LineBounds.{number-fits}
+use Rattle.rules_text.specs.RuleGroup.{RuleIn, ruleAt, rule1, rule2, rule3, rule4, patternKept}
+use Rattle.rules_text.specs.declared.read.RuleLines.{RuleLines}
+use Rattle.rules_text.proofs.read.RuleLaws.{rule-within}
+use Rattle.forms.proofs.LineBounds.{number-fits}
 use borrow.Author.Needs.{needs}
-use Rattle.trace.proofs.groups.read_rule.Statement.{statement}
-use Rattle.trace.proofs.groups.read_rule.Tie as tie
+use Rattle.rules_text.proofs.read.read_rule.Statement.{statement}
+use Rattle.rules_text.proofs.read.read_rule.Tie as tie
 
 -- Each line has a place, just after its call. From there, the place of the line before it; from the end, the place of the last line.
 abbrev pattern : tie.After-word-field → tie.After-hex-field

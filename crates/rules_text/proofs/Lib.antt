@@ -1,0 +1,2 @@
+pub mod RuleRound
+pub mod RuleTook

@@ -1,0 +1,100 @@
+-- A rule's four lines as the code writes them and sums up their lengths: each is at most 171 bytes long, where the types of the rule's fields hold (`RuleTyped`), and a sum of lengths each capped at
+-- the largest 64-bit number is the length of the text. Assumes nothing.
+use Prim.Native.Nat.{ℕ, _+_, _≤_, _<_}
+use mathlib.Core.Path.{_≡_, refl, sym, ap, _∙_}
+use mathlib.Core.List.{List, _++_, append-assoc}
+use native.Mathlib.Omega.{arith}
+use lib.ListN.{length, length-append, length-take}
+use Rattle.slices.specs.Bytes.{bytes}
+use Rattle.lines.specs.Line.{hexLine, wordLine, numberLine, capped}
+use Rattle.lines.specs.Word.{firstWord, restWords, wordText}
+use Rattle.lines.specs.Wrote.{Wrote}
+use Rattle.lines.proofs.lengths.LineLaws.{number-line-length, word-line-length, hex-line-length}
+use Rattle.lines.proofs.put.DecimalLaws.{decimal-short}
+use Rattle.lines.proofs.put.WroteLaws.{wrote-then}
+use Rattle.forms.proofs.LineBounds.{uncapped}
+use Rattle.forms.specs.Form.{Form, hexForm, wordForm, numberForm, pairForm, mapForm}
+use Rattle.tables.specs.Numbers.{actionNumber, policyNumber}
+use Rattle.tables.specs.Rules.{patternOf}
+use Rattle.tables.specs.declared.rules.MqttQoS.the-variants.{AtMostOnce, AtLeastOnce, ExactlyOnce}
+use Rattle.tables.specs.declared.rules.QosPolicy.{QosPolicy}
+use Rattle.tables.specs.declared.rules.QosPolicy.the-variants.{Any, MinQoS, ExactQoS}
+use Rattle.tables.specs.declared.rules.TopicAction.{TopicAction}
+use Rattle.tables.specs.declared.rules.TopicAction.the-variants.{Allow, Block}
+use Rattle.tables.specs.declared.rules.TopicRule.{TopicRule}
+use Rattle.rules_text.specs.RuleText.{actionForm, policyForm, ruleLines, valuesOf, ruleIn, ruleText}
+
+-- the words of an action and of a policy
+abbrev actions : List ℕ
+actions = bytes "allow|block"
+
+abbrev policies : List ℕ
+policies = bytes "any|min0|min1|min2|only0|only1|only2"
+
+-- the four lines, one behind the other
+abbrev linesOf : TopicRule → List ℕ
+linesOf r =
+    hexLine (bytes "pattern=") (patternOf r) ++ wordLine (bytes "action=") actions (actionNumber (r .action))
+    ++ wordLine (bytes "qos=") policies (policyNumber (r .«qos_policy»)) ++ numberLine (bytes "rate=") (r .«max_rate_per_sec»)
+
+rule-text : (r : TopicRule) → linesOf r ≡ ruleText r
+unfolding ruleText ruleLines pairForm hexForm actionForm policyForm mapForm wordForm numberForm
+rule-text r = simp append-assoc
+
+pub rule-wrote : (r : TopicRule) {u : List ℕ} {a q : ℕ} {d e f g h : List ℕ} {at w x y z : ℕ} → u ≡ patternOf r → a ≡ actionNumber (r .action) → q ≡ policyNumber (r .«qos_policy»)
+    → Wrote d e at (hexLine (bytes "pattern=") u) w → Wrote e f w (wordLine (bytes "action=") actions a) x → Wrote f g x (wordLine (bytes "qos=") policies q) y
+    → Wrote g h y (numberLine (bytes "rate=") (r .«max_rate_per_sec»)) z → Wrote d h at (ruleText r) z
+rule-wrote r eu ea eq p1 p2 p3 p4 = rw (← rule-text r, ← eu, ← ea, ← eq) (wrote-then (wrote-then (wrote-then p1 p2) p3) p4)
+
+-- how long the words are
+action-long : (a : TopicAction) → length (wordText actions (actionNumber a)) ≤ 5
+unfolding wordText firstWord restWords
+action-long Allow = omega arith
+action-long Block = omega arith
+
+policy-long : (q : QosPolicy) → length (wordText policies (policyNumber q)) ≤ 5
+unfolding wordText firstWord restWords
+policy-long Any = omega arith
+policy-long (MinQoS AtMostOnce) = omega arith
+policy-long (MinQoS AtLeastOnce) = omega arith
+policy-long (MinQoS ExactlyOnce) = omega arith
+policy-long (ExactQoS AtMostOnce) = omega arith
+policy-long (ExactQoS AtLeastOnce) = omega arith
+policy-long (ExactQoS ExactlyOnce) = omega arith
+
+-- what the types of a rule's fields hold
+pub record RuleTyped (r : TopicRule) : Type 0 where
+  pub long : length (r .pattern) ≡ 64
+  pub rate : r .«max_rate_per_sec» < 65536
+
+module _ (r : TopicRule) where
+  text-length : length (ruleText r) ≡ length (hexLine (bytes "pattern=") (patternOf r)) + length (wordLine (bytes "action=") actions (actionNumber (r .action)))
+      + length (wordLine (bytes "qos=") policies (policyNumber (r .«qos_policy»))) + length (numberLine (bytes "rate=") (r .«max_rate_per_sec»))
+  text-length = ap length (sym (rule-text r)) ∙ (simp length-append)
+
+  pub rule-short : length (patternOf r) ≤ 64 → r .«max_rate_per_sec» < 65536 → length (ruleText r) ≤ 171
+  rule-short h g =
+      omega (
+        arith,
+        text-length,
+        hex-line-length (bytes "pattern=") (patternOf r),
+        word-line-length (bytes "action=") actions (actionNumber (r .action)),
+        action-long (r .action),
+        word-line-length (bytes "qos=") policies (policyNumber (r .«qos_policy»)),
+        policy-long (r .«qos_policy»),
+        number-line-length (bytes "rate=") (r .«max_rate_per_sec»),
+        decimal-short 4 (r .«max_rate_per_sec») (omega (arith, g)),
+      )
+
+  -- the sum of the code
+  pub rule-sum : {u : List ℕ} {a q p x y z : ℕ} → RuleTyped r → u ≡ patternOf r → a ≡ actionNumber (r .action) → q ≡ policyNumber (r .«qos_policy»)
+      → p ≡ capped (length (hexLine (bytes "pattern=") u)) → x ≡ capped (length (wordLine (bytes "action=") actions a)) → y ≡ capped (length (wordLine (bytes "qos=") policies q))
+      → z ≡ capped (length (numberLine (bytes "rate=") (r .«max_rate_per_sec»))) → (p + x + y + z ≡ length (ruleText r)) × (p + x + y + z ≤ 171)
+  rule-sum t eu ea eq ep ex ey ez =
+      let h : length (patternOf r) ≤ 64 = omega (arith, length-take (r .«pattern_len») (r .pattern), t .long) in
+      let s = rule-short h (t .rate) in
+      let p = uncapped (rw eu at ep) (omega (arith, text-length, s)) in
+      let x = uncapped (rw ea at ex) (omega (arith, text-length, s)) in
+      let y = uncapped (rw eq at ey) (omega (arith, text-length, s)) in
+      let z = uncapped ez (omega (arith, text-length, s)) in
+      (omega (arith, text-length, s, p, x, y, z), omega (arith, text-length, s, p, x, y, z))

@@ -1,0 +1,2 @@
+pub mod RuleGroup
+pub mod RuleText

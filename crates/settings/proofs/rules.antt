@@ -1,0 +1,3 @@
+mod LoadLaws
+mod RulesText
+pub mod TableLaws

@@ -1,0 +1,5 @@
+pub mod Convert
+pub mod Head
+pub mod Kept
+pub mod Loaded
+pub mod SettingsText

@@ -1,0 +1,135 @@
+// The lines of a settings text before its rules, read and written.
+use forms::chain::Lined;
+use forms::chain::begin;
+use forms::chain::number_after;
+use forms::chain::word_after;
+use lines::lengths::number_line_len;
+use lines::lengths::word_line_len;
+use lines::put::put_number_line;
+use lines::put::put_word_line;
+use tables::rules::TopicAction;
+use tables::rules::action_at;
+use tables::rules::action_number;
+ghost use mathlib.Core.Path.{_≡_};
+ghost use Prim.Native.Nat.{_≤_, _<_};
+ghost use lib.ListN.{length};
+ghost use Rattle.lines.specs.Wrote.{Wrote};
+ghost use Rattle.settings.specs.Head.{formLine};
+ghost use Rattle.settings.specs.Kept.{headOf};
+ghost use Rattle.settings.specs.SettingsText.{formPlace, headLines};
+
+// What they gave. Refused: the number and the line, and nothing else. Else the values, how many lines these are and the place after them, where the rules begin.
+pub struct HeadLines {
+    pub number: u32,
+    pub line: u64,
+    pub next: usize,
+    pub form: u32,
+    pub default_action: TopicAction,
+    pub threshold: u8,
+    pub window: u64,
+    pub rules: u64,
+}
+
+// `form=1`: another word is 29.
+fn form_line(text: &[u8]) -> Lined
+    ensures { λ r. ⌜ r ≡ formLine (now (text .entry)) ⌝ }
+{
+    let form = word_after(text, begin(0), 0, b"form=", b"1");
+    if form.number != 23 {
+        return form;
+    }
+    Lined {
+        number: 29,
+        line: form.line,
+        value: form.value,
+        from: form.from,
+        to: form.to,
+        next: form.next,
+    }
+}
+
+// They are read one after another, with one test at the end.
+pub(crate) fn read_head(text: &[u8]) -> HeadLines
+    ensures { λ r. ⌜ r ≡ headOf (headLines .read (now (text .entry)) 0 0) ⌝ }
+{
+    let form = form_line(text);
+    let default = word_after(text, form, 1, b"default=", b"allow|block");
+    let threshold = number_after(text, default, 2, b"threshold=", 2, 16);
+    let window = number_after(text, threshold, 3, b"window=", 1000000, 600000000);
+    let rules = number_after(text, window, 4, b"rules=", 0, 32);
+    if rules.number != 0 {
+        return HeadLines {
+            number: rules.number,
+            line: 1 + rules.line as u64,
+            next: 0,
+            form: 0,
+            default_action: TopicAction::Allow,
+            threshold: 0,
+            window: 0,
+            rules: 0,
+        };
+    }
+    let default_action = action_at(default.value);
+    HeadLines {
+        number: 0,
+        line: 1 + rules.line as u64,
+        next: rules.next,
+        form: 1 + form.value as u32,
+        default_action,
+        threshold: threshold.value as u8,
+        window: window.value,
+        rules: rules.value,
+    }
+}
+
+// A form's place among the words of those that are known.
+fn form_place(form: u32) -> usize
+    ensures { λ r. ⌜ r ≡ formPlace form ⌝ }
+{
+    if form == 0 {
+        return 0;
+    }
+    (form - 1) as usize
+}
+
+// They are written into a lent buffer, from `at` on.
+pub(crate) fn put_head(
+    out: &mut [u8],
+    at: usize,
+    form: u32,
+    default_action: TopicAction,
+    threshold: u8,
+    window: u64,
+    rules: u16,
+) -> usize
+    ensures { λ r. ⌜ Wrote (now (out .entry)) (now (out .exit)) at (headLines .text (form, («default_action», (threshold, (window, rules))))) r ⌝ }
+{
+    let place = form_place(form);
+    let action = action_number(default_action) as usize;
+    let a = put_word_line(out, at, b"form=", b"1", place);
+    let b = put_word_line(out, a, b"default=", b"allow|block", action);
+    let c = put_number_line(out, b, b"threshold=", threshold as u64);
+    let d = put_number_line(out, c, b"window=", window);
+    put_number_line(out, d, b"rules=", rules as u64)
+}
+
+// How many bytes they are.
+pub(crate) fn head_len(
+    form: u32,
+    default_action: TopicAction,
+    threshold: u8,
+    window: u64,
+    rules: u16,
+) -> usize
+    ensures { λ r. ⌜ r ≡ length (headLines .text (form, («default_action», (threshold, (window, rules))))) ⌝ }
+    ensures short { λ r. ⌜ r ≤ 200 ⌝ }
+{
+    let place = form_place(form);
+    let action = action_number(default_action) as usize;
+    let a = word_line_len(b"form=", b"1", place);
+    let b = word_line_len(b"default=", b"allow|block", action);
+    let c = number_line_len(b"threshold=", threshold as u64);
+    let d = number_line_len(b"window=", window);
+    let e = number_line_len(b"rules=", rules as u64);
+    a + b + c + d + e
+}

@@ -1,0 +1,45 @@
+// A settings text, loaded: a fresh monitor that has its settings, or a number and a line.
+use crate::read::read_settings;
+use monitor::calls::fresh;
+use monitor::state::MqttMonitor;
+use tables::rules::TopicAction;
+use topics::matching::Matching;
+ghost use mathlib.Core.Path.{_≡_};
+ghost use Rattle.settings.specs.Loaded.{loadedOf};
+ghost use Rattle.settings.specs.SettingsText.{settingsOf};
+
+// What a text loaded to: the monitor, the form of its text and the last line. Where `number` refuses the text at `line` nothing of it is kept: the monitor is then a fresh one that denies all.
+pub struct LoadedSettings {
+    pub number: u32,
+    pub line: u64,
+    pub form: u32,
+    pub monitor: MqttMonitor,
+}
+
+// No monitor is taken: whoever has one keeps it until this one is there. It matches as the Rust does, since a text does not say how.
+pub fn load_settings(text: &[u8]) -> LoadedSettings
+    ensures { λ r. ⌜ r ≡ loadedOf (settingsOf (now (text .entry))) ⌝ }
+{
+    let found = read_settings(text);
+    if found.number != 0 {
+        return LoadedSettings {
+            number: found.number,
+            line: found.line,
+            form: 0,
+            monitor: fresh(Matching::Port, TopicAction::Block),
+        };
+    }
+    let default_action = found.default_action;
+    let rules = found.rules;
+    let mut m = fresh(Matching::Port, default_action);
+    m.rules = rules;
+    m.rule_count = found.rule_count;
+    m.connect_storm_threshold = found.threshold;
+    m.connect_storm_window_us = found.window;
+    LoadedSettings {
+        number: 0,
+        line: found.line,
+        form: found.form,
+        monitor: m,
+    }
+}
