@@ -38,16 +38,16 @@ rule-says before a f =
     (λ t. absurd (eqb-false _ _ t (rw t at (f .1))))
 
 -- rules that fit have patterns of at most 64 bytes
-pub fit-brief : {before rs : List RuleText} → FitAll ruleForm before rs → Brief rs
-fit-brief {before} {[]} f = brief-none
-fit-brief {before} {a ∷ rs} (fit-more h more) = brief-more (accepted-length (a .pattern) (rule-says before a h .0) .1) (fit-brief more)
+pub fit-brief : (before rs : List RuleText) → FitAll ruleForm before rs → Brief rs
+fit-brief before [] f = brief-none
+fit-brief before (a ∷ rs) (fit-more h more) = brief-more (accepted-length (a .pattern) (rule-says before a h .0) .1) (fit-brief (before ++ (a ∷ [])) rs more)
 
 -- a fresh monitor with CONNECT settings and some rules
 abbrev holds : TopicAction → ℕ → ℕ → List RuleText → MqttMonitor
 holds d t w rs = withSettings (withRules (fresh Port d) (tableOf rs) (length rs)) t w
 
-module _ (P : MqttMonitor → Type 0) (make : (default : TopicAction) → P (fresh Port default)) (set-storm : {m : MqttMonitor} → P m → (t w : ℕ) → P (setStorm m t w .monitor))
-    (add : {m : MqttMonitor} → P m → (p : List ℕ) (action : TopicAction) (policy : QosPolicy) (rate : ℕ) → P (addRule m p action policy rate .monitor)) where
+module _ (P : MqttMonitor → Type 0) (make : (default : TopicAction) → P (fresh Port default)) (set-storm : (m : MqttMonitor) → P m → (t w : ℕ) → P (setStorm m t w .monitor))
+    (add : (m : MqttMonitor) → P m → (p : List ℕ) (action : TopicAction) (policy : QosPolicy) (rate : ℕ) → P (addRule m p action policy rate .monitor)) where
   module _ (d : TopicAction) (t w : ℕ) where
     -- one rule more
     one-more : (before : List RuleText) (a : RuleText) → Sound (holds d t w before) → Brief before → length before < 32 → ruleForm before .fits a
@@ -67,7 +67,7 @@ module _ (P : MqttMonitor → Type 0) (make : (default : TopicAction) → P (fre
     all-added before (a ∷ rs) p s b h (fit-more fa fr) =
         let e = one-more before a s b (omega arith) fa in
         let n : length (before ++ (a ∷ [])) ≡ length before + 1 = rw length-append (omega arith) in
-        let p′ : P (holds d t w (before ++ (a ∷ []))) = rw e at (add p (a .pattern) (a .action) (a .policy) (a .rate)) in
+        let p′ : P (holds d t w (before ++ (a ∷ []))) = rw e at (add (holds d t w before) p (a .pattern) (a .action) (a .policy) (a .rate)) in
         let s′ : Sound (holds d t w (before ++ (a ∷ []))) = rw e at (sound-add s (a .pattern) (a .action) (a .policy) (a .rate)) in
         rw (append-assoc before (a ∷ []) rs) at
         (all-added (before ++ (a ∷ [])) rs p′ s′ (brief-join a b (accepted-length (a .pattern) (rule-says before a fa .0) .1)) (omega arith) fr)
@@ -87,6 +87,6 @@ module _ (P : MqttMonitor → Type 0) (make : (default : TopicAction) → P (fre
   by-calls v f =
       let x = f .0 .0 .1 .1 in
       let e = storm-is (v .default) (v .threshold) (v .window) (x .0 .0) (x .0 .1) (x .1 .0 .0) (x .1 .0 .1) in
-      let p : P (holds (v .default) (v .threshold) (v .window) []) = rw e at (set-storm (make (v .default)) (v .threshold) (v .window)) in
+      let p : P (holds (v .default) (v .threshold) (v .window) []) = rw e at (set-storm (fresh Port (v .default)) (make (v .default)) (v .threshold) (v .window)) in
       let s : Sound (holds (v .default) (v .threshold) (v .window) []) = rw e at (sound-storm (sound-fresh Port (v .default)) (v .threshold) (v .window)) in
       all-added (v .default) (v .threshold) (v .window) [] (v .rules) p s brief-none (let q : length (v .rules) ≤ 32 = x .1 .1 .1 in omega arith) (f .0 .1 .1)

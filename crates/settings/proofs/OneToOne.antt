@@ -6,7 +6,7 @@ use mathlib.Core.List.{List, [], _∷_, _++_, map}
 use native.Mathlib.Omega.{arith}
 use lib.Dec.{eqb, leb}
 use lib.ListN.{length, getD, take, replicate}
-use lib.Seq.{sets}
+use lib.Seq.{sets, take-all}
 use borrow.Author.Tests.{eq-eqb, le-leb}
 use Rattle.slices.specs.Bytes.{bytes}
 use Rattle.topics.specs.declared.matching.Matching.the-variants.{Port}
@@ -15,7 +15,6 @@ use Rattle.lines.specs.Word.{firstWord, restWords, wordText}
 use Rattle.forms.specs.Form.{Form, Took, took, stopped, FitAll, fit-more, wordForm, hexForm, numberForm, pairForm, mapForm, testForm, numberedForm, manyForm}
 use Rattle.forms.proofs.ShortLaws.{Short, number-short, word-short, pair-short, map-short, numbered-short, many-short}
 use Rattle.tables.specs.Rules.{emptyRule, noRule}
-use Rattle.tables.specs.declared.rules.TopicAction.the-variants.{Allow}
 use Rattle.tables.specs.declared.rules.TopicRule.{TopicRule}
 use Rattle.rules_text.specs.RuleText.{RuleText, actionForm, policyForm, ruleLines, ruleForm, ruleIn}
 use Rattle.rules_text.proofs.put.PutLaws.{lines-short}
@@ -26,7 +25,7 @@ use Rattle.monitor.specs.Reached.{Reached, constructed, rule-added, storm-set}
 use Rattle.monitor.specs.Sound.{Sound}
 use Rattle.monitor.specs.State.{wellFormed}
 use Rattle.monitor.specs.declared.state.MqttMonitor.{MqttMonitor}
-use Rattle.monitor.proofs.Ranged.{fresh-ranged}
+use Rattle.monitor.proofs.Ranged.{alone, zeros, free-rule, no-rule, fresh-ranged}
 use Rattle.monitor.proofs.Reached.{reached-sound}
 use Rattle.settings.specs.Convert.{endAt, convertedEnd, convertEnd, convertedKept, convertKept}
 use Rattle.settings.specs.Loaded.{settingsIn, settingsText, textRefusal, lengthOf, fitted, writtenOf, textKept, ruleHeld, tableOf, monitorOf, loadedOf}
@@ -111,12 +110,12 @@ rules-back rs (brief-more {a = a} {rs = more} h b) =
 settings-are : (v : Settings) → settingsForm .fits v → settingsIn (v .form) (monitorOf v) ≡ v
 unfolding settingsForm mapForm settingsLines pairForm manyForm monitorOf fresh
 settings-are v f =
-    let e : map ruleIn (take (length (v .rules)) (tableOf (v .rules))) ≡ v .rules = rw (table-used (v .rules)) (rules-back (v .rules) (fit-brief (f .0 .1 .1))) in
+    let e : map ruleIn (take (length (v .rules)) (tableOf (v .rules))) ≡ v .rules = rw (table-used (v .rules)) (rules-back (v .rules) (fit-brief [] (v .rules) (f .0 .1 .1))) in
     λ k. record { form = v .form; default = v .default; threshold = v .threshold; window = v .window; rules = e k }
 
 loaded-written : (s : List ℕ) {v : Settings} {l : ℕ} → Accepted s v l → settingsText (v .form) (monitorOf v) ≡ s
 unfolding settingsText
-loaded-written s {v} e = let b = settings-back s e in rw (settings-are v (b .1)) (b .0)
+loaded-written s {v} e = let b = settings-back s e in ap (λ (x : Settings). settingsForm .text x) (settings-are v (b .1)) ∙ b .0
 
 one-text : (s t : List ℕ) {v : Settings} {l k : ℕ} → Accepted s v l → Accepted t v k → s ≡ t
 one-text s t e f = sym (settings-back s e .0) ∙ settings-back t f .0
@@ -130,17 +129,17 @@ module _ (s : List ℕ) {v : Settings} {l : ℕ} (e : Accepted s v l) where
   fits = settings-back s e .1
 
   prepared : Prepared (monitorOf v)
-  prepared = by-calls Prepared (made Port) (λ p t w. storm p t w) (λ p q action policy rate. rule p q action policy rate) v fits
+  prepared = by-calls Prepared (made Port) (λ m p t w. storm p t w) (λ m p q action policy rate. rule p q action policy rate) v fits
 
   reached : Reached (monitorOf v)
-  reached = by-calls Reached (constructed Port) (λ r t w. storm-set t w r) (λ r q action policy rate. rule-added q action policy rate r) v fits
+  reached = by-calls Reached (constructed Port) (λ m r t w. storm-set t w r) (λ m r q action policy rate. rule-added q action policy rate r) v fits
 
   sound : Sound (monitorOf v)
   sound = reached-sound reached
 
   form-known : isForm (v .form) ≡ true
   unfolding settingsForm mapForm settingsLines pairForm headLines formForm numberedForm wordForm firstWord restWords
-  form-known = let f = fits .0 .0 .0 in eq-eqb _ _ (omega (arith, f .0, f .1))
+  form-known = let f = fits .0 .0 .0 in eq-eqb (v .form) 1 (omega (arith, f .0, f .1))
 
   -- an accepted text is handed back
   measured : lengthOf (v .form) (monitorOf v) ≡ record { number = 0; length = length s }
@@ -155,26 +154,9 @@ module _ (s : List ℕ) {v : Settings} {l : ℕ} (e : Accepted s v l) where
   unfolding convertEnd convertedEnd endAt convertKept convertedKept textKept
   given-back d h = (rw (e, convertedEnd, written (length d) h), rw (e, convertedKept, written (length d) h, loaded-written s e))
 
--- numbers within their types: of a free place's rule and of what is read past the end, which a fresh monitor has both of
-free-rule : RangedRule emptyRule
-unfolding fresh
-free-rule = fresh-ranged Port Allow .rules-ranged 0
+-- NUMBERS WITHIN THEIR TYPES
 
-no-rule : RangedRule noRule
-unfolding fresh
-no-rule = fresh-ranged Port Allow .rules-ranged 32
-
-free-ranged : (k i : ℕ) → RangedRule (getD (replicate k emptyRule) i noRule)
-free-ranged zero i = no-rule
-free-ranged (suc k) zero = free-rule
-free-ranged (suc k) (suc i) = free-ranged k i
-
--- bytes, and zeros after them
-zeros-small : (k i : ℕ) → getD (replicate k 0) i 0 < 256
-zeros-small zero i = omega arith
-zeros-small (suc k) zero = omega arith
-zeros-small (suc k) (suc i) = zeros-small k i
-
+-- bytes behind bytes
 join-small : (a b : List ℕ) → ((i : ℕ) → getD a i 0 < 256) → ((i : ℕ) → getD b i 0 < 256) → (i : ℕ) → getD (a ++ b) i 0 < 256
 join-small [] b h g i = g i
 join-small (c ∷ a) b h g zero = h zero
@@ -185,12 +167,50 @@ unfolding ruleForm testForm mapForm ruleLines pairForm hexForm numberForm
 held-ranged before a f =
     let n = accepted-length (a .pattern) (rule-says before a f .0) .1 in
     record {
-      pattern-bytes = ?;
+      pattern-bytes = join-small (take 64 (a .pattern)) (replicate (64 - length (a .pattern)) 0) (λ i. rw (take-all 64 (a .pattern) n) (f .0 .0 .0 .1 i)) (zeros 256 (64 - length (a .pattern)) (omega arith));
       pattern-len = omega (arith, n);
       rate = let r : a .rate ≤ 65535 = f .0 .0 .1 .1 .1 .1 in omega arith;
     }
 
 table-ranged : (k : ℕ) (before rs : List RuleText) → FitAll ruleForm before rs → (i : ℕ) → RangedRule (getD (map ruleHeld rs ++ replicate k emptyRule) i noRule)
-table-ranged k before [] f i = free-ranged k i
+table-ranged k before [] f i = alone RangedRule k emptyRule noRule free-rule no-rule i
 table-ranged k before (a ∷ rs) (fit-more fa fr) zero = held-ranged before a fa
 table-ranged k before (a ∷ rs) (fit-more fa fr) (suc i) = table-ranged k (before ++ (a ∷ [])) rs fr i
+
+ranged : (s : List ℕ) {v : Settings} {l : ℕ} → Accepted s v l → Ranged (monitorOf v)
+unfolding settingsForm mapForm settingsLines pairForm headLines bodyIn numberForm manyForm monitorOf fresh
+ranged s {v} e =
+    let f = settings-back s e .1 .0 in
+    let x = f .0 .1 .1 in
+    let t : v .threshold ≤ 16 = x .0 .1 in
+    let w : v .window ≤ 600000000 = x .1 .0 .1 in
+    let n : length (v .rules) ≤ 32 = x .1 .1 .1 in
+    let g = fresh-ranged Port (v .default) in
+    record {
+      rules-ranged = table-ranged (32 - length (v .rules)) [] (v .rules) (f .1 .1);
+      count-fits = omega arith;
+      buckets-ranged = g .buckets-ranged;
+      windows-ranged = g .windows-ranged;
+      threshold-fits = omega arith;
+      window-fits = omega arith;
+      trackers-ranged = g .trackers-ranged;
+      id-fits = g .id-fits;
+      inspected-fits = g .inspected-fits;
+      alerts-fit = g .alerts-fit;
+    }
+
+-- all of it
+pub one-to-one : OneToOne
+one-to-one =
+    record {
+      written-loads = written-loads;
+      loaded-written = loaded-written;
+      one-text = one-text;
+      a-text = a-text;
+      whole = whole;
+      longest = longest;
+      given-back = λ s d e h. given-back s e d h;
+    }
+
+pub made-by-calls : MadeByCalls
+made-by-calls = record { prepared = prepared; reached = reached; sound = sound; ranged = ranged }
