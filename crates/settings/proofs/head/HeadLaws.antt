@@ -91,6 +91,7 @@ module _ (s : List ℕ) where
   was-read : (l : Lined) → (Refused l → R ≡ l) → R .number ≡ 0 → l .number ≡ 0
   was-read l f z = by (eqb (l .number) 0) (λ t. eqb-true _ _ t) (λ t. let q = f (eqb-false _ _ t) in absurd (eqb-false _ _ t (rw q at z)))
 
+  -- and a threshold that was read is not over 16
   threshold-small : R .number ≡ 0 → T .value ≤ 16
   unfolding numberAfter
   threshold-small z =
