@@ -84,8 +84,8 @@ sum : (c : tie.After-number-line-len3)
     let first = form second in
     let args = of-place (of-action first) .before .args in
     let all =
-        first .word-line-len .result + second .word-line-len2 .result + third .number-line-len .result + fourth .number-line-len2 .result
-        + c .number-line-len3 .result in
+    first .word-line-len .result + second .word-line-len2 .result + third .number-line-len .result + fourth .number-line-len2 .result
+    + c .number-line-len3 .result in
     (all ≡ length (headLines .text (args .form, (args .default-action, (args .threshold, (args .window, args .rules)))))) × (all ≤ 200)
 sum c =
     let fourth = window c in
