@@ -13,7 +13,7 @@ use Rattle.lines.proofs.lengths.LineLaws.{number-line-length, word-line-length}
 use Rattle.lines.proofs.put.DecimalLaws.{decimal-short, decimal-20}
 use Rattle.lines.proofs.put.WroteLaws.{wrote-then}
 use Rattle.forms.proofs.LineBounds.{uncapped}
-use Rattle.forms.specs.Form.{Form, wordForm, numberForm, pairForm, mapForm, numberedForm}
+use Rattle.forms.specs.Form.{wordForm, numberForm, pairForm, mapForm, numberedForm}
 use Rattle.tables.specs.Numbers.{actionNumber}
 use Rattle.tables.specs.declared.rules.TopicAction.{TopicAction}
 use Rattle.tables.specs.declared.rules.TopicAction.the-variants.{Allow, Block}

@@ -21,6 +21,7 @@ rule-alone : (before : List RuleText) (r : TopicRule) → ruleForm before .text 
 unfolding ruleForm testForm mapForm ruleText
 rule-alone before r = refl
 
+-- one rule more, as its lines say it
 map-last : (l : List TopicRule) (x : TopicRule) → map ruleIn (l ++ (x ∷ [])) ≡ map ruleIn l ++ (ruleIn x ∷ [])
 map-last [] x = refl
 map-last (y ∷ l) x = ap (λ (m : List RuleText). ruleIn y ∷ m) (map-last l x)

@@ -1,17 +1,17 @@
 -- What is written of a monitor's settings, and how long it is: the lines before the rules and then the rules (`settings-wrote`, `settings-sum`), the numbers that refuse a text (`not-formed`,
 -- `not-known`), and the answer and the lent buffer for each way to end (`kept-refused`, `kept-short`, `kept-written`). Assumes nothing.
 use Prim.Native.Nat.{ℕ, _+_, _≤_, _<_}
-use mathlib.Core.Path.{_≡_, refl, sym, ap, _∙_}
+use mathlib.Core.Path.{_≡_, ap}
 use mathlib.Core.Bool.{true, false}
 use mathlib.Core.List.{List, [], _++_, map}
 use native.Mathlib.Omega.{arith}
-use borrow.Author.Tests.{eqb-true, eq-eqb, ne-eqb, le-leb, lt-leb}
+use borrow.Author.Tests.{eq-eqb, ne-eqb, le-leb, lt-leb}
 use lib.Dec.{eqb}
 use lib.ListN.{length, take, length-append, length-map, length-take}
 use Rattle.laws.proofs.Cases.{by}
 use Rattle.lines.specs.Wrote.{Wrote}
 use Rattle.lines.proofs.put.WroteLaws.{wrote-then}
-use Rattle.forms.specs.Form.{Form, pairForm, mapForm, manyForm, textAll}
+use Rattle.forms.specs.Form.{pairForm, mapForm, manyForm, textAll}
 use Rattle.rules_text.specs.RuleText.{ruleForm, ruleIn}
 use Rattle.monitor.specs.State.{wellFormed}
 use Rattle.monitor.specs.declared.state.MqttMonitor.{MqttMonitor}
@@ -47,11 +47,12 @@ module _ (form : ℕ) (m : MqttMonitor) where
     unfolding lengthOf textRefusal
     settings-sum k eh er = rw (f, eq-eqb form 1 k, text-parts, eh, er) (simp length-append)
 
-  -- 10, then 29
+  -- 10: the monitor is not well formed
   pub not-formed : wellFormed m ≡ false → unwritten 10 ≡ lengthOf form m
   unfolding lengthOf textRefusal
   not-formed f = rw f
 
+  -- then 29: the form is not known
   pub not-known : wellFormed m ≡ true → (form ≡ 1 → ⊥) → unwritten 29 ≡ lengthOf form m
   unfolding lengthOf textRefusal
   not-known f k = rw (f, ne-eqb form 1 k)
@@ -71,16 +72,19 @@ module _ (form : ℕ) (m : MqttMonitor) where
         (λ t. ap (λ (w : Written). w .length) (rw t at e))
 
     module _ (d : List ℕ) where
+      -- refused: the answer is the refusal, and the buffer stays
       pub kept-refused : (w .number ≡ 0 → ⊥) → (w ≡ writtenOf form m (length d)) × (d ≡ textKept form m d)
       unfolding writtenOf fitted textKept
       kept-refused z =
           let g = le-leb (w .length) (length d) (omega (arith, refused-length z)) in
           (rw (← e, g), rw (← e, g, ne-eqb (w .number) 0 z))
 
+      -- 28: there is no room, and the buffer stays
       pub kept-short : length d < w .length → (unwritten 28 ≡ writtenOf form m (length d)) × (d ≡ textKept form m d)
       unfolding writtenOf fitted textKept
       kept-short h = let g = lt-leb (w .length) (length d) h in (rw (← e, g), rw (← e, g))
 
+      -- written: the text stands at the beginning of the buffer
       pub kept-written : {g : List ℕ} {r : ℕ} → w .number ≡ 0 → w .length ≤ length d → Wrote d g 0 (settingsText form m) r
           → (w ≡ writtenOf form m (length d)) × (g ≡ textKept form m d)
       unfolding writtenOf fitted textKept
