@@ -4,7 +4,6 @@ use Prim.Native.Nat.{ℕ, suc, _+_, _*_, _^_, _≤_, _<_}
 use mathlib.Core.List.{List, [], _∷_, _++_}
 use native.Mathlib.Omega.{arith}
 use native.Mathlib.Nat.{suc-mul}
-use mathlib.Core.Path.{_≡_}
 use lib.ListN.{length, length-append}
 use Rattle.lines.specs.Word.{wordsOf, wordText}
 use Rattle.lines.proofs.put.DecimalLaws.{decimal-short}

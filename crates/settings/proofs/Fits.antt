@@ -1,19 +1,17 @@
 -- The settings of a sound monitor whose numbers are within their types fit; so what is written of them is read as them, and the monitor that has them has them in every field. Assumes nothing.
-use Prim.Native.Nat.{ℕ, zero, suc, _+_, _-_, _*_, _≤_, _<_}
+use Prim.Native.Nat.{ℕ, zero, suc, _+_, _-_, _≤_, _<_}
 use mathlib.Core.Path.{_≡_, refl, sym, ap, _∙_}
-use mathlib.Core.Bool.{true, false, _||_}
+use mathlib.Core.Bool.{true, false}
 use mathlib.Core.List.{List, [], _∷_, _++_, map}
 use native.Mathlib.Omega.{arith}
-use lib.Dec.{eqb}
 use lib.ListN.{length, getD, take, drop, replicate, length-append, length-take, length-map, length-replicate, getD-replicate, List·getD-map, List·getD-append, take-append-drop}
 use lib.Seq.{getD-take, take-take, length-take-le, ext-getD, getD-append-add, take-all}
 use borrow.Author.Tests.{eqb-true}
 use Rattle.laws.proofs.Cases.{by-le}
 use Rattle.laws.proofs.Every.{every-first}
 use Rattle.slices.specs.Bytes.{bytes, same}
-use Rattle.topics.specs.Patterns.{patternRefusal}
 use Rattle.lines.specs.Word.{firstWord, restWords}
-use Rattle.forms.specs.Form.{Form, FitAll, numberForm, wordForm, hexForm, pairForm, mapForm, testForm, manyForm, numberedForm}
+use Rattle.forms.specs.Form.{FitAll, numberForm, wordForm, hexForm, pairForm, mapForm, testForm, manyForm, numberedForm}
 use Rattle.forms.proofs.FormRound.{each-fits}
 use Rattle.tables.specs.Rules.{patternOf, ruleFine, emptyRule, noRule}
 use Rattle.tables.specs.declared.rules.QosPolicy.{QosPolicy}
@@ -24,7 +22,7 @@ use Rattle.tables.proofs.rules.RuleLaws.{fine-says}
 use Rattle.rules_text.specs.RuleText.{RuleText, actionForm, policyForm, ruleLines, ruleForm, ruleRefusal, givenIn, ruleIn}
 use Rattle.monitor.specs.Calls.{fresh}
 use Rattle.monitor.specs.Ranged.{RangedRule, Ranged}
-use Rattle.monitor.specs.Sound.{Sound, SoundRules}
+use Rattle.monitor.specs.Sound.{Sound}
 use Rattle.monitor.specs.declared.state.MqttMonitor.{MqttMonitor}
 use Rattle.monitor.proofs.state.FormedLaws.{formed-parts}
 use Rattle.settings.specs.Loaded.{settingsIn, ruleHeld, tableOf, monitorOf, SameSettings}
@@ -69,8 +67,7 @@ rule-fits : (before : List RuleText) (r : TopicRule) → RangedRule r → ruleFi
 unfolding ruleForm testForm mapForm ruleLines pairForm hexForm numberForm ruleRefusal
 rule-fits before r g f e =
     let p = fine-says r f in
-    let n : length (patternOf r) ≤ 128 = rw length-take (omega (arith, p .1)) in
-    (
+    let n : length (patternOf r) ≤ 128 = rw length-take (omega (arith, p .1)) in (
       (((n, small-take (r .«pattern_len») (r .pattern) (g .pattern-bytes)), (action-fits (bytes "action=") (r .action), (policy-fits (r .«qos_policy»), (omega arith, omega (arith, g .rate))))), refl),
       rw (e, p .2),
     )
@@ -126,8 +123,7 @@ module _ (m : MqttMonitor) (s : Sound m) where
   pub settings-fit : Ranged m → (form : ℕ) → isForm form ≡ true → settingsForm .fits (settingsIn form m)
   unfolding settingsForm mapForm settingsLines pairForm headLines bodyIn numberForm manyForm
   settings-fit ranged form h =
-      let n : length texts ≤ 32 = rw (length-map, held-long) count-le in
-      (
+      let n : length texts ≤ 32 = rw (length-map, held-long) count-le in (
         ((form-fits form h, (action-fits (bytes "default=") (m .«default_action»), ((s .threshold-low, s .threshold-high), ((s .window-low, s .window-high), (omega arith, n))))), (refl, rules-fit ranged)),
         refl,
       )

@@ -1,7 +1,7 @@
 -- A loaded monitor is one that calls make: a constructor, `set_connect_storm_params`, which clamps nothing of a text that was accepted, and `add_rule` for each of its rules, which takes every one and
 -- overwrites none. So whatever calls keep holds of it. Assumes nothing.
-use Prim.Native.Nat.{ℕ, zero, suc, _+_, _-_, _*_, _≤_, _<_, min, max}
-use mathlib.Core.Path.{_≡_, refl, sym, ap, _∙_}
+use Prim.Native.Nat.{ℕ, _+_, _-_, _≤_, _<_, min, max}
+use mathlib.Core.Path.{_≡_, refl, sym, _∙_}
 use mathlib.Core.Bool.{false}
 use mathlib.Core.List.{List, [], _∷_, _++_, append-nil, append-assoc}
 use native.Mathlib.Omega.{arith}
@@ -10,11 +10,10 @@ use lib.ListN.{length, length-append}
 use borrow.Author.Tests.{eqb-true, eqb-false}
 use Rattle.laws.proofs.Cases.{by}
 use Rattle.topics.specs.Patterns.{patternRefusal}
-use Rattle.topics.specs.declared.matching.Matching.{Matching}
 use Rattle.topics.specs.declared.matching.Matching.the-variants.{Port}
 use Rattle.topics.proofs.patterns.PatternLaws.{accepted-length}
-use Rattle.forms.specs.Form.{Form, FitAll, fit-more, testForm, pairForm, mapForm, numberForm, manyForm}
-use Rattle.tables.specs.Rules.{isHeld, rulePlan}
+use Rattle.forms.specs.Form.{FitAll, fit-more, testForm, pairForm, mapForm, numberForm, manyForm}
+use Rattle.tables.specs.Rules.{isHeld}
 use Rattle.tables.specs.declared.rules.QosPolicy.{QosPolicy}
 use Rattle.tables.specs.declared.rules.TopicAction.{TopicAction}
 use Rattle.tables.proofs.rules.PlanLaws.{plan-new}
@@ -25,7 +24,7 @@ use Rattle.monitor.specs.State.{withRules, withSettings}
 use Rattle.monitor.specs.declared.state.MqttMonitor.{MqttMonitor}
 use Rattle.monitor.proofs.rule_calls.AddLaws.{add-takes}
 use Rattle.monitor.proofs.SoundCalls.{sound-fresh, sound-add, sound-storm}
-use Rattle.settings.specs.Loaded.{ruleHeld, tableOf, monitorOf}
+use Rattle.settings.specs.Loaded.{tableOf, monitorOf}
 use Rattle.settings.specs.SettingsText.{Settings, bodyIn, headLines, settingsLines, settingsForm}
 use Rattle.settings.proofs.rules.TableLaws.{Brief, brief-none, brief-more, brief-join, held-given, table-more}
 

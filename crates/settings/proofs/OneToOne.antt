@@ -1,10 +1,9 @@
 -- Settings and their text: what specs/OneToOne.antt claims. Assumes nothing.
-use Prim.Native.Nat.{ℕ, zero, suc, _+_, _-_, _*_, _≤_, _<_}
+use Prim.Native.Nat.{ℕ, zero, suc, _+_, _-_, _≤_, _<_}
 use mathlib.Core.Path.{_≡_, refl, sym, ap, _∙_}
-use mathlib.Core.Bool.{true, cond}
+use mathlib.Core.Bool.{true}
 use mathlib.Core.List.{List, [], _∷_, _++_, map}
 use native.Mathlib.Omega.{arith}
-use lib.Dec.{eqb, leb}
 use lib.ListN.{length, getD, take, replicate}
 use lib.Seq.{sets, take-all}
 use borrow.Author.Tests.{eq-eqb, le-leb}
@@ -12,18 +11,16 @@ use Rattle.slices.specs.Bytes.{bytes}
 use Rattle.topics.specs.declared.matching.Matching.the-variants.{Port}
 use Rattle.topics.proofs.patterns.PatternLaws.{accepted-length}
 use Rattle.lines.specs.Word.{firstWord, restWords, wordText}
-use Rattle.forms.specs.Form.{Form, Took, took, stopped, FitAll, fit-more, wordForm, hexForm, numberForm, pairForm, mapForm, testForm, numberedForm, manyForm}
+use Rattle.forms.specs.Form.{took, FitAll, fit-more, wordForm, hexForm, numberForm, pairForm, mapForm, testForm, numberedForm, manyForm}
 use Rattle.forms.proofs.ShortLaws.{Short, number-short, word-short, pair-short, map-short, numbered-short, many-short}
 use Rattle.tables.specs.Rules.{emptyRule, noRule}
-use Rattle.tables.specs.declared.rules.TopicRule.{TopicRule}
-use Rattle.rules_text.specs.RuleText.{RuleText, actionForm, policyForm, ruleLines, ruleForm, ruleIn}
+use Rattle.rules_text.specs.RuleText.{RuleText, actionForm, ruleLines, ruleForm, ruleIn}
 use Rattle.rules_text.proofs.put.PutLaws.{lines-short}
 use Rattle.monitor.specs.Calls.{fresh}
 use Rattle.monitor.specs.Prepared.{Prepared, made, rule, storm}
 use Rattle.monitor.specs.Ranged.{RangedRule, Ranged}
 use Rattle.monitor.specs.Reached.{Reached, constructed, rule-added, storm-set}
 use Rattle.monitor.specs.Sound.{Sound}
-use Rattle.monitor.specs.State.{wellFormed}
 use Rattle.monitor.specs.declared.state.MqttMonitor.{MqttMonitor}
 use Rattle.monitor.proofs.Ranged.{alone, zeros, free-rule, no-rule, fresh-ranged}
 use Rattle.monitor.proofs.Reached.{reached-sound}

@@ -1,24 +1,21 @@
 -- Settings there and back, over whole texts: what is written of settings that fit is read as them, and a text that is taken is what is written of its settings. Assumes nothing.
-use Prim.Native.Nat.{ℕ, zero, suc, _+_, _≤_, _<_}
-use mathlib.Core.Path.{_≡_, refl, sym, _∙_}
-use mathlib.Core.Bool.{cond}
+use Prim.Native.Nat.{ℕ, _≤_, _<_}
+use mathlib.Core.Path.{_≡_, refl, sym}
 use mathlib.Core.List.{List}
 use native.Mathlib.Omega.{arith}
-use lib.Dec.{eqb, leb}
+use lib.Dec.{eqb}
 use lib.ListN.{length}
-use borrow.Author.Tests.{eqb-false}
 use Rattle.laws.specs.Lists.{every}
 use Rattle.laws.proofs.Cases.{by}
 use Rattle.slices.specs.Bytes.{bytes, same}
-use Rattle.lines.specs.Field.{textEnd}
 use Rattle.lines.specs.ReadWord.{wordIndex, different}
 use Rattle.lines.specs.Word.{firstWord, restWords}
-use Rattle.forms.specs.Form.{Took, took, stopped, onTook, Form, Round, wordForm, mapForm, pairForm, manyForm, numberForm, numberedForm, ended, wholeOf}
+use Rattle.forms.specs.Form.{took, Round, wordForm, pairForm, manyForm}
 use Rattle.forms.proofs.FormRound.{number-round, word-round, pair-round, map-round, many-round, numbered-round, whole-there, whole-back}
-use Rattle.forms.proofs.RealLaws.{Real, RealTook, number-real, word-real, pair-real, map-real, numbered-real, many-real}
-use Rattle.rules_text.specs.RuleText.{RuleText, ruleForm}
+use Rattle.forms.proofs.RealLaws.{Real, RealTook, number-real, word-real, pair-real, map-real, numbered-real, many-real, whole-real}
+use Rattle.rules_text.specs.RuleText.{ruleForm}
 use Rattle.rules_text.proofs.RuleRound.{action-round, rule-round, action-real, rule-real}
-use Rattle.settings.specs.SettingsText.{Settings, formPlace, formAt, formNumber, formForm, Body, bodyIn, headLines, rulesAfter, Lines, settingsLines, settingsFrom, linesOf, settingsForm, settingsOf}
+use Rattle.settings.specs.SettingsText.{Settings, formPlace, formAt, formNumber, formForm, bodyIn, headLines, rulesAfter, Lines, settingsLines, settingsFrom, linesOf, settingsForm, settingsOf}
 
 place-back : (k : ℕ) → k < 1 → formPlace (formAt k) ≡ k
 place-back k h = omega arith
@@ -86,19 +83,7 @@ form-real : Real settingsForm
 unfolding settingsForm settingsLines
 form-real = map-real _ _ _ (pair-real _ _ head-real (λ h. rules-real (rulesAfter h)))
 
--- so has what stands after the last line
-ended-real : (s : List ℕ) (t : Took Settings) → RealTook t → RealTook (ended s t)
-unfolding ended onTook
-ended-real s (took v p l) r n m =
-    by (eqb (textEnd s p) 0)
-    (λ t. rw t (λ e z. let q : _≡_ {A = ℕ} 0 1 = cc in omega arith))
-    (λ t. rw t (λ e z. eqb-false _ _ t (let q : textEnd s p ≡ n = cc in q ∙ z)))
-ended-real s (stopped k l) r n m = r n m
-
--- and a text that is too long
+-- and so has what refuses a whole text
 pub settings-real : (s : List ℕ) → RealTook (settingsOf s)
-unfolding settingsOf wholeOf
-settings-real s n m =
-    by (leb (length s) 65536)
-    (λ t. rw t (ended-real s (settingsForm .read s 0 0) (form-real s 0 0) n m))
-    (λ t. rw t (λ e z. let q : _≡_ {A = ℕ} 27 n = cc in omega arith))
+unfolding settingsOf
+settings-real s = whole-real settingsForm form-real s

@@ -7,7 +7,7 @@ use mathlib.Core.Path.{_≡_}
 use Prim.Native.Nat.{ℕ, _≤_}
 use lib.ListN.{length}
 use lib.Seq.{sets}
-use Rattle.forms.specs.Form.{Form, took}
+use Rattle.forms.specs.Form.{took}
 use Rattle.monitor.specs.Prepared.{Prepared}
 use Rattle.monitor.specs.Ranged.{Ranged}
 use Rattle.monitor.specs.Reached.{Reached}

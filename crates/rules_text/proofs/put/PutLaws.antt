@@ -1,7 +1,7 @@
 -- A rule's four lines as the code writes them and sums up their lengths: each is at most 171 bytes long, where the types of the rule's fields hold (`RuleTyped`), and a sum of lengths each capped at
 -- the largest 64-bit number is the length of the text. Assumes nothing.
 use Prim.Native.Nat.{ℕ, _+_, _≤_, _<_}
-use mathlib.Core.Path.{_≡_, refl, sym, ap, _∙_}
+use mathlib.Core.Path.{_≡_, sym, ap, _∙_}
 use mathlib.Core.List.{List, _++_, append-assoc}
 use native.Mathlib.Omega.{arith}
 use lib.ListN.{length, length-append, length-take}
@@ -13,7 +13,7 @@ use Rattle.lines.proofs.lengths.LineLaws.{number-line-length, word-line-length,
 use Rattle.lines.proofs.put.DecimalLaws.{decimal-short}
 use Rattle.lines.proofs.put.WroteLaws.{wrote-then}
 use Rattle.forms.proofs.LineBounds.{uncapped}
-use Rattle.forms.specs.Form.{Form, hexForm, wordForm, numberForm, pairForm, mapForm}
+use Rattle.forms.specs.Form.{hexForm, wordForm, numberForm, pairForm, mapForm}
 use Rattle.tables.specs.Numbers.{actionNumber, policyNumber}
 use Rattle.tables.specs.Rules.{patternOf}
 use Rattle.tables.specs.declared.rules.MqttQoS.the-variants.{AtMostOnce, AtLeastOnce, ExactlyOnce}
@@ -77,8 +77,14 @@ module _ (v : RuleText) where
   pub lines-short : length (v .pattern) ≤ 64 → v .rate < 65536 → length (ruleLines .text (valuesOf v)) ≤ 171
   lines-short h g =
       omega (
-        arith, text-length, hex-line-length (bytes "pattern=") (v .pattern), word-line-length (bytes "action=") actions (actionNumber (v .action)), action-long (v .action),
-        word-line-length (bytes "qos=") policies (policyNumber (v .policy)), policy-long (v .policy), number-line-length (bytes "rate=") (v .rate),
+        arith,
+        text-length,
+        hex-line-length (bytes "pattern=") (v .pattern),
+        word-line-length (bytes "action=") actions (actionNumber (v .action)),
+        action-long (v .action),
+        word-line-length (bytes "qos=") policies (policyNumber (v .policy)),
+        policy-long (v .policy),
+        number-line-length (bytes "rate=") (v .rate),
         decimal-short 4 (v .rate) (omega (arith, g)),
       )
 
