@@ -1,12 +1,11 @@
 -- Fields there and back, at a place of a longer text.
-use Prim.Native.Nat.{ℕ, zero, suc, _+_, _-_, _/_, _≤_, _<_, min}
-use mathlib.Core.Path.{_≡_, refl, sym, ap, _∙_}
-use mathlib.Core.Bool.{Bool, true, false, not}
-use mathlib.Core.List.{List, [], _∷_, _++_}
+use Prim.Native.Nat.{ℕ, _+_, _-_, _≤_, _<_}
+use mathlib.Core.Path.{_≡_, refl}
+use mathlib.Core.Bool.{true}
+use mathlib.Core.List.{List, _++_}
 use native.Mathlib.Omega.{arith}
-use native.Mathlib.Nat.{min-eq-left, le-of-lt}
 use lib.Dec.{eqb, ltb}
-use lib.ListN.{length, take, drop, getD}
+use lib.ListN.{length, getD}
 use borrow.Author.Tests.{eqb-true, eqb-false, ltb-true}
 use Rattle.laws.specs.Lists.{every}
 use Rattle.slices.specs.Bytes.{placeIn}
@@ -17,15 +16,14 @@ use Rattle.lines.specs.Line.{numberLine, wordLine, hexLine}
 use Rattle.lines.specs.ReadDecimal.{decimalOf}
 use Rattle.lines.specs.ReadWord.{wordIndex, wordOf, different}
 use Rattle.lines.specs.ReadHex.{unhex, hexCount, hexRefusal}
-use Rattle.lines.specs.Field.{refused, read, lineAt, valueOf, onLine, answered, numberField, wordField, hexField}
+use Rattle.lines.specs.Field.{read, lineAt, valueOf, onLine, answered, numberField, wordField, hexField}
 use Rattle.lines.specs.declared.read.Field.{Field}
 use Rattle.lines.specs.declared.value.Number.{Number}
 use Rattle.lines.specs.declared.value.Number.the-variants.{Value, Bad}
 use Rattle.laws.proofs.Cases.{by}
 use Rattle.lines.proofs.DecimalRound.{decimal-read, decimal-unique, decimal-range}
 use Rattle.lines.proofs.Round.{round}
-use Rattle.lines.proofs.HexRound.{hex-read, hex-back, hex-unique, unhex-length}
-use Rattle.lines.proofs.value.HexLaws.{hex-taken}
+use Rattle.lines.proofs.HexRound.{hex-read, hex-back, hex-unique}
 use Rattle.lines.proofs.put.HexLaws.{hex-length}
 use Rattle.forms.specs.Stands.{Stands}
 use Rattle.forms.proofs.PlainLaws.{inLine, decimal-plain, word-plain, hex-plain}

@@ -1,16 +1,15 @@
 -- Each way of building a form keeps the two laws.
-use Prim.Native.Nat.{ℕ, zero, suc, _+_, _*_, _/_, _%_, _≤_, _<_}
+use Prim.Native.Nat.{ℕ, zero, suc, _+_, _≤_, _<_}
 use mathlib.Core.Path.{_≡_, refl, sym, ap, _∙_}
-use mathlib.Core.Bool.{Bool, true, false, cond}
+use mathlib.Core.Bool.{true}
 use mathlib.Core.List.{List, [], _∷_, _++_, append-nil, append-assoc}
 use native.Mathlib.Omega.{arith}
-use native.Mathlib.Nat.{add-zero}
 use lib.Dec.{eqb, leb}
 use lib.ListN.{length, getD, take}
-use borrow.Author.Tests.{eq-eqb, ne-eqb, eqb-true, eqb-false, lt-ltb, le-ltb, le-leb, leb-true}
+use borrow.Author.Tests.{eq-eqb, eqb-true, lt-ltb, le-ltb, le-leb, leb-true}
 use Rattle.laws.specs.Lists.{every}
 use Rattle.lines.specs.Field.{numberField, wordField, hexField, valueOf, textEnd}
-use Rattle.lines.specs.ReadHex.{isHex, hexValue, unhex, hexCount, hexRefusal}
+use Rattle.lines.specs.ReadHex.{isHex, hexValue, unhex}
 use Rattle.lines.specs.ReadWord.{different}
 use Rattle.lines.specs.Word.{wordsOf}
 use Rattle.lines.specs.Span.{spanOf}

@@ -1,20 +1,19 @@
 -- Lines there and back, at a place of a longer text.
-use Prim.Native.Nat.{ℕ, zero, suc, _+_, _-_, _≤_, _<_, min}
-use mathlib.Core.Path.{_≡_, refl, sym, ap, _∙_}
-use mathlib.Core.Bool.{Bool, true, false, not}
+use Prim.Native.Nat.{ℕ, suc, _+_, _-_, _≤_, _<_, min}
+use mathlib.Core.Path.{_≡_, sym, ap, _∙_}
+use mathlib.Core.Bool.{true}
 use mathlib.Core.List.{List, [], _∷_, _++_, append-assoc}
 use native.Mathlib.Omega.{arith}
 use native.Mathlib.Nat.{min-eq-left, le-of-lt}
-use lib.Dec.{eqb, ltb}
-use lib.ListN.{length, take, drop, getD, length-append, length-drop, length-take, take-append-drop}
+use lib.Dec.{eqb}
+use lib.ListN.{length, drop, getD, length-append, length-drop, length-take, take-append-drop}
 use lib.Seq.{getD-drop, drop-drop, drop-append-seam, take-append-seam}
-use borrow.Author.Tests.{lt-ltb, eq-eqb, eqb-true, eqb-false}
+use borrow.Author.Tests.{lt-ltb, eqb-true}
 use Rattle.laws.specs.Lists.{every}
 use Rattle.slices.specs.Bytes.{begins, toByte, findByte}
 use Rattle.slices.proofs.bytes.WalkLaws.{opened}
 use Rattle.lines.specs.Span.{spanOf, part}
-use Rattle.lines.specs.Field.{refused, keyed, lineAt, valueOf}
-use Rattle.lines.specs.declared.held.Span.{Span}
+use Rattle.lines.specs.Field.{keyed, lineAt, valueOf}
 use Rattle.lines.specs.declared.read.Field.{Field}
 use Rattle.laws.proofs.Cases.{by}
 use Rattle.laws.proofs.Every.{every-join}

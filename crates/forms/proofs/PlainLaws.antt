@@ -1,19 +1,19 @@
 -- Values without LF: where a line ends.
 use Prim.Native.Nat.{ℕ, zero, suc, _+_, _≤_, _<_}
-use mathlib.Core.Path.{_≡_, refl, sym, ap, _∙_}
+use mathlib.Core.Path.{_≡_, refl, ap}
 use mathlib.Core.Bool.{Bool, true, false, not, _&&_}
 use mathlib.Core.List.{List, [], _∷_, _++_}
 use native.Mathlib.Omega.{arith}
 use lib.Dec.{eqb, leb}
-use lib.ListN.{length, take, drop, getD, length-append}
-use borrow.Author.Tests.{eq-eqb, ne-eqb, eqb-false, eqb-true, leb-true, not-true}
+use lib.ListN.{length, drop, getD}
+use borrow.Author.Tests.{eq-eqb, ne-eqb, eqb-true, leb-true, not-true}
 use Rattle.laws.specs.Lists.{every}
 use Rattle.slices.specs.Bytes.{begins, toByte}
 use Rattle.lines.specs.Decimal.{decimal}
 use Rattle.lines.specs.Hex.{hexText}
 use Rattle.lines.specs.ReadDecimal.{isDigit, digitsAfter, noSpareZero, decimalOf}
-use Rattle.lines.specs.ReadHex.{isHex, hexRefusal}
-use Rattle.lines.specs.Word.{firstWord, restWords, wordsOf, wordText}
+use Rattle.lines.specs.ReadHex.{isHex}
+use Rattle.lines.specs.Word.{firstWord, restWords, wordText}
 use Rattle.laws.proofs.Cases.{by}
 use Rattle.laws.proofs.Tests.{never, both}
 use Rattle.laws.proofs.Every.{every-both}

@@ -1,15 +1,15 @@
--- A form that stops has a number above 0.
+-- What stops a form has a number above 0, so that a number of 0 says that it was read: whoever hands number and line on from group to group asks for it. Assumes nothing.
 use Prim.Native.Nat.{ℕ, zero, suc, _+_}
-use mathlib.Core.Path.{_≡_, refl, sym, ap, _∙_}
-use mathlib.Core.Bool.{true, false}
+use mathlib.Core.Path.{_≡_, refl, _∙_}
 use mathlib.Core.List.{List, [], _∷_, _++_}
 use native.Mathlib.Omega.{arith}
-use lib.Dec.{eqb}
-use borrow.Author.Tests.{eqb-true, eqb-false}
-use Rattle.lines.specs.Field.{numberField, wordField, hexField}
+use lib.Dec.{eqb, leb}
+use lib.ListN.{length}
+use borrow.Author.Tests.{eqb-false}
+use Rattle.lines.specs.Field.{numberField, wordField, hexField, textEnd}
 use Rattle.lines.specs.declared.read.Field.{Field}
 use Rattle.laws.proofs.Cases.{by}
-use Rattle.forms.specs.Form.{Took, took, stopped, onTook, Form, fieldTook, numberForm, wordForm, hexForm, pairForm, mapForm, testForm, numberedForm, renumbered, readAll, manyForm}
+use Rattle.forms.specs.Form.{Took, took, stopped, onTook, Form, fieldTook, numberForm, wordForm, hexForm, pairForm, mapForm, testForm, numberedForm, renumbered, readAll, manyForm, ended, wholeOf}
 
 -- what is stopped is stopped by a number above 0
 abbrev pub RealTook : {A : Type 0} → Took A → Type 0
@@ -77,3 +77,14 @@ all-real F f (suc k) acc s at line =
 pub many-real : {A : Type 0} (F : List A → Form A) → ((acc : List A) → Real (F acc)) → (k : ℕ) → Real (manyForm F k)
 unfolding manyForm
 many-real F f k s at line = all-real F f k [] s at line
+
+-- a whole text: what stands after it has a number, and one that is too long has 27
+pub whole-real : {A : Type 0} (F : Form A) → Real F → (s : List ℕ) → RealTook (wholeOf F s)
+unfolding wholeOf ended
+whole-real F f s =
+    by (leb (length s) 65536)
+    (λ t.
+    rw t
+    (on-real (F .read s 0 0) _ (f s 0 0)
+    (λ a p l e. by (eqb (textEnd s p) 0) (λ u. rw u (took-real a p l)) (λ u. rw u (stop-real (textEnd s p) (l + 1) (eqb-false _ _ u))))))
+    (λ t. rw t (stop-real 27 0 (λ z. omega arith)))

@@ -6,7 +6,7 @@ pub mod Four
 pub mod Link
 pub mod PlainLaws
 pub mod Prepared
-mod Ranged
+pub mod Ranged
 pub mod Reached
 pub mod Replies
 mod SoundBuckets

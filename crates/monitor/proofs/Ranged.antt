@@ -1,4 +1,4 @@
--- That every number of a state is within its type can be met: a fresh monitor's are. Requests C-13 and C-23 wait for it. Assumes nothing.
+-- That every number of a state is within its type can be met: a fresh monitor's are. `settings` takes it on to monitors that were loaded; request C-23 waits for it. Assumes nothing.
 use Prim.Native.Nat.{ℕ, _^_, _<_}
 use native.Mathlib.Omega.{arith}
 use borrow.Author.Tests.{ltb-true, ltb-false}
@@ -16,14 +16,21 @@ use Rattle.monitor.specs.Calls.{fresh}
 use Rattle.monitor.specs.Ranged.{Below, RangedRule, RangedId, RangedBucket, RangedWindow, RangedTracker, Ranged}
 
 -- what holds of an element and of what is read past the end holds of a table of that element alone
-alone : {A : Type 0} (P : A → Type 0) (n : ℕ) (x d : A) → P x → P d → (i : ℕ) → P (getD (replicate n x) i d)
+pub alone : {A : Type 0} (P : A → Type 0) (n : ℕ) (x d : A) → P x → P d → (i : ℕ) → P (getD (replicate n x) i d)
 alone P n x d p q i =
     by (ltb i n)
     (λ e. rw (getD-replicate n i x d (ltb-true _ _ e)) p)
     (λ e. rw (List·getD-eq-default (replicate n x) d {n = i} (omega (arith, length-replicate n x, ltb-false i n e))) q)
 
-zeros : (n m : ℕ) → 0 < n → Below n (replicate m 0)
+pub zeros : (n m : ℕ) → 0 < n → Below n (replicate m 0)
 zeros n m h = alone (λ k. k < n) m 0 0 h h
+
+-- the rules of a free place and of what is read past a table's end
+pub free-rule : RangedRule emptyRule
+free-rule = record { pattern-bytes = zeros 256 64 (omega arith); pattern-len = omega arith; rate = omega arith }
+
+pub no-rule : RangedRule noRule
+no-rule = record { pattern-bytes = zeros 256 0 (omega arith); pattern-len = omega arith; rate = omega arith }
 
 -- the identities of a free place and of what is read past a table's end
 free-id : RangedId emptyId
@@ -37,9 +44,7 @@ unfolding fresh
 fresh-ranged matching default =
     record {
       rules-ranged =
-          alone RangedRule 32 emptyRule noRule
-          (record { pattern-bytes = zeros 256 64 (omega arith); pattern-len = omega arith; rate = omega arith })
-          (record { pattern-bytes = zeros 256 0 (omega arith); pattern-len = omega arith; rate = omega arith });
+          alone RangedRule 32 emptyRule noRule free-rule no-rule;
       count-fits = omega arith;
       buckets-ranged =
           alone RangedBucket 32 emptyBucket noBucket

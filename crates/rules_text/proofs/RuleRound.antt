@@ -1,6 +1,6 @@
 -- A rule's form keeps its law both ways: its lines are put together of forms that do. And what whoever puts rules together asks of them: that no number is 0, that there are four lines, that they are
 -- not over 171 bytes. Assumes nothing.
-use Prim.Native.Nat.{ℕ, zero, suc, _+_, _*_, _≤_, _<_}
+use Prim.Native.Nat.{ℕ, zero, suc, _+_, _*_, _<_}
 use mathlib.Core.Path.{_≡_, refl}
 use mathlib.Core.Bool.{true}
 use mathlib.Core.List.{List, [], _∷_, _++_}
@@ -10,7 +10,7 @@ use Rattle.laws.specs.Lists.{every}
 use Rattle.slices.specs.Bytes.{bytes, same}
 use Rattle.lines.specs.ReadWord.{wordIndex, different}
 use Rattle.lines.specs.Word.{firstWord, restWords}
-use Rattle.forms.specs.Form.{Form, Round, wordForm, numberForm, hexForm, pairForm, mapForm, testForm, countAll}
+use Rattle.forms.specs.Form.{Round, wordForm, numberForm, hexForm, pairForm, mapForm, testForm, countAll}
 use Rattle.forms.proofs.PlainLaws.{inLine}
 use Rattle.forms.proofs.FormRound.{number-round, word-round, hex-round, pair-round, map-round, test-round}
 use Rattle.forms.proofs.RealLaws.{Real, number-real, word-real, hex-real, pair-real, map-real, test-real}

@@ -9,7 +9,7 @@ use borrow.Author.Tests.{eq-eqb, ne-eqb}
 use Rattle.laws.proofs.Cases.{by}
 use Rattle.slices.specs.Bytes.{bytes}
 use Rattle.lines.specs.Field.{hexField, wordField, numberField}
-use Rattle.forms.specs.Form.{Took, took, stopped, onTook, Form, hexForm, wordForm, numberForm, pairForm, mapForm, testForm}
+use Rattle.forms.specs.Form.{Took, took, stopped, onTook, hexForm, wordForm, numberForm, pairForm, mapForm, testForm}
 use Rattle.rules_text.specs.RuleGroup.{rule1, rule2, rule3, rule4, ruleAt, patternIn}
 use Rattle.rules_text.specs.RuleText.{RuleText, RuleValues, ruleFrom, actionForm, policyForm, ruleLines, ruleRefusal, ruleForm}
 use Rattle.rules_text.specs.declared.read.RuleLines.{RuleLines}

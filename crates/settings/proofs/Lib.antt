@@ -1,1 +1,4 @@
+pub mod Fits
+mod Made
+pub mod OneToOne
 pub mod SettingsRound

@@ -1,7 +1,6 @@
 -- Settings there and back, over whole texts: what is written of settings that fit is read as them, and a text that is taken is what is written of its settings. Assumes nothing.
-use Prim.Native.Nat.{ℕ, zero, suc, _+_, _≤_, _<_}
+use Prim.Native.Nat.{ℕ, _≤_, _<_}
 use mathlib.Core.Path.{_≡_, refl, sym}
-use mathlib.Core.Bool.{cond}
 use mathlib.Core.List.{List}
 use native.Mathlib.Omega.{arith}
 use lib.Dec.{eqb}
@@ -11,12 +10,12 @@ use Rattle.laws.proofs.Cases.{by}
 use Rattle.slices.specs.Bytes.{bytes, same}
 use Rattle.lines.specs.ReadWord.{wordIndex, different}
 use Rattle.lines.specs.Word.{firstWord, restWords}
-use Rattle.forms.specs.Form.{Took, took, Form, Round, wordForm, mapForm, pairForm, manyForm, numberForm, numberedForm}
+use Rattle.forms.specs.Form.{took, Round, wordForm, pairForm, manyForm}
 use Rattle.forms.proofs.FormRound.{number-round, word-round, pair-round, map-round, many-round, numbered-round, whole-there, whole-back}
-use Rattle.forms.proofs.RealLaws.{Real, RealTook, number-real, word-real, pair-real, map-real, numbered-real, many-real}
-use Rattle.rules_text.specs.RuleText.{RuleText, ruleForm}
+use Rattle.forms.proofs.RealLaws.{Real, RealTook, number-real, word-real, pair-real, map-real, numbered-real, many-real, whole-real}
+use Rattle.rules_text.specs.RuleText.{ruleForm}
 use Rattle.rules_text.proofs.RuleRound.{action-round, rule-round, action-real, rule-real}
-use Rattle.settings.specs.SettingsText.{Settings, formPlace, formAt, formNumber, formForm, Body, bodyIn, headLines, rulesAfter, Lines, settingsLines, settingsFrom, linesOf, settingsForm, settingsOf}
+use Rattle.settings.specs.SettingsText.{Settings, formPlace, formAt, formNumber, formForm, bodyIn, headLines, rulesAfter, Lines, settingsLines, settingsFrom, linesOf, settingsForm, settingsOf}
 
 place-back : (k : ℕ) → k < 1 → formPlace (formAt k) ≡ k
 place-back k h = omega arith
@@ -78,3 +77,13 @@ head-real = pair-real _ _ (numbered-real formNumber _ number-kept (map-real _ _ 
 
 pub rules-real : (k : ℕ) → Real (manyForm ruleForm k)
 rules-real k = many-real ruleForm rule-real k
+
+-- what stops the lines has a number
+form-real : Real settingsForm
+unfolding settingsForm settingsLines
+form-real = map-real _ _ _ (pair-real _ _ head-real (λ h. rules-real (rulesAfter h)))
+
+-- and so has what refuses a whole text
+pub settings-real : (s : List ℕ) → RealTook (settingsOf s)
+unfolding settingsOf
+settings-real s = whole-real settingsForm form-real s

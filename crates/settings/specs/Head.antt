@@ -5,7 +5,7 @@ use mathlib.Core.List.{List}
 use Prim.Native.Nat.{ℕ}
 use lib.Dec.{eqb}
 use Rattle.slices.specs.Bytes.{bytes}
-use Rattle.forms.specs.Chain.{begun, wordAfter, numberAfter}
+use Rattle.forms.specs.Chain.{begun, wordAfter}
 use Rattle.forms.specs.declared.chain.Lined.{Lined}
 
 -- `form=1`: another word is 29

@@ -3,7 +3,7 @@
 use mathlib.Core.List.{List}
 use Prim.Native.Nat.{ℕ}
 use lib.ListN.{length, replicate}
-use Rattle.forms.specs.Form.{Form, Took, took, stopped}
+use Rattle.forms.specs.Form.{Took, took, stopped}
 use Rattle.tables.specs.Rules.{emptyRule}
 use Rattle.tables.specs.declared.rules.TopicAction.the-variants.{Allow}
 use Rattle.rules_text.specs.RuleText.{RuleText}

@@ -2,4 +2,5 @@ pub mod Convert
 pub mod Head
 pub mod Kept
 pub mod Loaded
+pub mod OneToOne
 pub mod SettingsText

@@ -8,7 +8,7 @@ use lib.Dec.{eqb, leb}
 use lib.ListN.{length, take, replicate}
 use lib.Seq.{sets}
 use Rattle.topics.specs.declared.matching.Matching.the-variants.{Port}
-use Rattle.forms.specs.Form.{Form, Took, took, stopped}
+use Rattle.forms.specs.Form.{Took, took, stopped}
 use Rattle.tables.specs.Rules.{ruleOf, emptyRule}
 use Rattle.tables.specs.declared.rules.TopicAction.the-variants.{Block}
 use Rattle.tables.specs.declared.rules.TopicRule.{TopicRule}

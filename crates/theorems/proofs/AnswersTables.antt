@@ -31,6 +31,8 @@ use Rattle.tables.proofs.rules.empty_rule as rules-empty-rule
 use Rattle.tables.proofs.rules.empty_rule.Reads as rules-empty-rule-reads
 use Rattle.tables.proofs.rules.check_qos_policy as rules-check-qos-policy
 use Rattle.tables.proofs.rules.check_qos_policy.Reads as rules-check-qos-policy-reads
+use Rattle.tables.proofs.rules.used as rules-used
+use Rattle.tables.proofs.rules.used.Reads as rules-used-reads
 use Rattle.tables.proofs.rules.places as rules-places
 use Rattle.tables.proofs.rules.places.Reads as rules-places-reads
 use Rattle.tables.proofs.rules.rule_fine as rules-rule-fine
@@ -175,6 +177,12 @@ one-rules-check-qos-policy κs a x y e f p q = p ∙ sym q
 
 pub any-rules-check-qos-policy : Any rules-check-qos-policy.ended rules-check-qos-policy-reads.Asked
 any-rules-check-qos-policy κs a = tt
+
+pub one-rules-used : One rules-used.ended rules-used-reads.Post
+one-rules-used κs a x y e f p q = p ∙ sym q
+
+pub any-rules-used : Any rules-used.ended rules-used-reads.Asked
+any-rules-used κs a = tt
 
 pub one-rules-places : One rules-places.ended rules-places-reads.Post
 one-rules-places κs a x y e f p q = p ∙ sym q

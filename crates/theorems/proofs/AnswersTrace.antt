@@ -5,8 +5,6 @@ use Prim.Native.Nat.{ℕ}
 use denote.Ref.{now}
 use Rattle.trace.proofs.groups.read_opening as groups-read-opening
 use Rattle.trace.proofs.groups.read_opening.Reads as groups-read-opening-reads
-use Rattle.trace.proofs.groups.read_rule as groups-read-rule
-use Rattle.trace.proofs.groups.read_rule.Reads as groups-read-rule-reads
 use Rattle.trace.proofs.groups.read_message as groups-read-message
 use Rattle.trace.proofs.groups.read_message.Reads as groups-read-message-reads
 use Rattle.trace.proofs.«record».put_record as record-put-record
@@ -41,12 +39,6 @@ one-groups-read-opening κs a x y e f p q = p .0 ∙ sym (q .0)
 
 pub any-groups-read-opening : Any groups-read-opening.ended groups-read-opening-reads.Asked
 any-groups-read-opening κs a = tt
-
-pub one-groups-read-rule : OneLeft groups-read-rule.ended groups-read-rule-reads.Post (λ κs e. now (e .1 .1 .0))
-one-groups-read-rule κs a x y e f p q = (p .0 ∙ sym (q .0), p .1 .1 ∙ sym (q .1 .1))
-
-pub any-groups-read-rule : Any groups-read-rule.ended groups-read-rule-reads.Asked
-any-groups-read-rule κs a = tt
 
 pub one-groups-read-message : OneLeft groups-read-message.ended groups-read-message-reads.Post {L = List ℕ × List ℕ} (λ κs e. (now (e .1 .1 .0), now (e .1 .1 .1 .0)))
 one-groups-read-message κs a x y e f p q = (p .0 ∙ sym (q .0), ap₂ (λ u v. (u, v)) (p .1 .1 .0 ∙ sym (q .1 .1 .0)) (p .1 .1 .1 ∙ sym (q .1 .1 .1)))

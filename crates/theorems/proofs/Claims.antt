@@ -19,6 +19,7 @@ use Rattle.theorems.proofs.Lower.{lower-first, lower-later}
 use Rattle.theorems.proofs.Printed.{printed-limits}
 use Rattle.theorems.proofs.RemovalRuns.{removal-runs}
 use Rattle.theorems.proofs.Removals.{gives-removed, felt-under, removed-under, felt-shipped, removed-shipped, failed-free}
+use Rattle.theorems.proofs.Settings.{saved-settings}
 use Rattle.theorems.proofs.Shipped.{shipped-meets}
 use Rattle.theorems.proofs.ShutOut.{shut-out}
 use Rattle.theorems.proofs.Slips.{slips}
@@ -46,6 +47,7 @@ claims =
       printed-met = witness;
       looped = loop-limits;
       read-alike = same-read;
+      settings = saved-settings;
       chosen = chosen;
       sound = sound-always;
       unbroken = unbroken-always;

@@ -1,11 +1,14 @@
 mod Account
 mod AnswersCut
 mod AnswersDesk
+mod AnswersForms
 mod AnswersHub
 mod AnswersLines
 mod AnswersLoops
 mod AnswersMonitor
+mod AnswersRules
 mod AnswersRuns
+mod AnswersSettings
 mod AnswersSlices
 mod AnswersTables
 mod AnswersTopics
@@ -28,6 +31,7 @@ mod RemovalRuns
 mod Removals
 mod Seated
 mod Seats
+mod Settings
 mod Shipped
 mod ShutOut
 mod Slips

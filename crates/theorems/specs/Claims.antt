@@ -16,6 +16,7 @@ use Rattle.theorems.specs.LowerExact.{Exactness}
 use Rattle.theorems.specs.Printed.{PrintedLimits, LoopLimits}
 use Rattle.theorems.specs.RemovalRuns.{RemovalRuns}
 use Rattle.theorems.specs.Removals.{Removals}
+use Rattle.theorems.specs.Settings.{SavedSettings}
 use Rattle.theorems.specs.Shipped.{ShippedLimits}
 use Rattle.theorems.specs.ShutOut.{ShutOut}
 use Rattle.theorems.specs.Slips.{Slips}
@@ -62,6 +63,9 @@ pub record Claims : Type 0 where
   pub looped : LoopLimits
   -- what is read of a trace's text is the same for either matcher: rules, messages, end and line
   pub read-alike : ReadAlike
+  -- SETTINGS (request C-13): what was written of any state that calls handed out loads to the same settings, field by field, and any accepted text is written back byte for byte; so accepted texts and
+  -- settings correspond one to one. A loaded monitor is one that calls make, and demand 3 holds from it
+  pub settings : SavedSettings
   -- A MONITOR'S MATCHER is the one that its constructor chose: every call keeps it, runs take it throughout, and by it the rules are chosen level by level
   pub chosen : Chosen
   -- ONE INSPECTION AND MANY. Every state that calls hand out is sound, so number 10 is never met in one

@@ -8,6 +8,7 @@ pub mod Printed
 pub mod RemovalRuns
 pub mod Removals
 pub mod Run
+pub mod Settings
 pub mod Shipped
 pub mod ShutOut
 pub mod Slips

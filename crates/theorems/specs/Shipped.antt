@@ -24,36 +24,43 @@ passedBy f p m x [] = 0
 passedBy f p m x (c ∷ cs) = cond (reaches (matcherOf p) p x c && passes f m c) 1 0 + passedBy f p (f m c .monitor) x cs
 
 -- demand 3's upper half
-abbrev pub UpperBy : Monitor → Type 0
-UpperBy f =
-    (p : MqttMonitor) → Prepared p
-    → (x : Id) (R : ℕ) (before between : List Call) (a z : Call)
+abbrev pub UpperFrom : Monitor → MqttMonitor → Type 0
+UpperFrom f p =
+    (x : Id) (R : ℕ) (before between : List Call) (a z : Call)
     → InOrder (before ++ a ∷ between ++ z ∷ [])
     → OneRate (matcherOf p) p x R (before ++ a ∷ between ++ z ∷ [])
     → reaches (matcherOf p) p x a ≡ true → reaches (matcherOf p) p x z ≡ true
     → passedBy f p (afterBy f p before) x (a ∷ between ++ z ∷ []) ≤ R + R * (time z - time a) / 1000000
 
 -- its lower half, first messages
-abbrev pub LowerBy : Monitor → Type 0
-LowerBy f =
-    (p : MqttMonitor) → Prepared p
-    → (x : Id) (before : List Call) (z : Call)
+abbrev pub LowerFrom : Monitor → MqttMonitor → Type 0
+LowerFrom f p =
+    (x : Id) (before : List Call) (z : Call)
     → InOrder (before ++ z ∷ [])
     → length (arrived (matcherOf p) p [] (before ++ z ∷ [])) ≤ 32
     → Silent (matcherOf p) p x before → reaches (matcherOf p) p x z ≡ true
     → passes f (afterBy f p before) z ≡ true
 
 -- its lower half, later messages
-abbrev pub LaterBy : Monitor → Type 0
-LaterBy f =
-    (p : MqttMonitor) → Prepared p
-    → (x : Id) (R : ℕ) (before between : List Call) (y z : Call)
+abbrev pub LaterFrom : Monitor → MqttMonitor → Type 0
+LaterFrom f p =
+    (x : Id) (R : ℕ) (before between : List Call) (y z : Call)
     → InOrder (before ++ y ∷ between ++ z ∷ [])
     → length (arrived (matcherOf p) p [] (before ++ y ∷ between ++ z ∷ [])) ≤ 32
     → OneRate (matcherOf p) p x R (before ++ y ∷ between ++ z ∷ [])
     → reaches (matcherOf p) p x y ≡ true → Silent (matcherOf p) p x between → reaches (matcherOf p) p x z ≡ true
     → 1000000 ≤ R * (time z - time y)
     → passes f (afterBy f p (before ++ y ∷ between)) z ≡ true
+
+-- of every fresh monitor
+abbrev pub UpperBy : Monitor → Type 0
+UpperBy f = (p : MqttMonitor) → Prepared p → UpperFrom f p
+
+abbrev pub LowerBy : Monitor → Type 0
+LowerBy f = (p : MqttMonitor) → Prepared p → LowerFrom f p
+
+abbrev pub LaterBy : Monitor → Type 0
+LaterBy f = (p : MqttMonitor) → Prepared p → LaterFrom f p
 
 -- the shipped `inspect` meets all of it, whichever matcher its monitor chose
 pub record ShippedLimits : Type 0 where

@@ -1,17 +1,14 @@
 -- Lines one after another: what the chain of readers gives is what the form reads.
-use Prim.Native.Nat.{ℕ, zero, suc, _+_, _≤_, _<_}
-use mathlib.Core.Path.{_≡_, refl, sym, ap, _∙_}
-use mathlib.Core.Bool.{Bool, true, false, cond}
+use Prim.Native.Nat.{ℕ, _+_}
+use mathlib.Core.Path.{_≡_}
+use mathlib.Core.Bool.{cond}
 use mathlib.Core.List.{List}
-use native.Mathlib.Omega.{arith}
 use lib.Dec.{eqb}
 use borrow.Author.Tests.{eq-eqb, ne-eqb, eqb-true, eqb-false}
-use Rattle.lines.specs.Field.{numberField, wordField}
-use Rattle.lines.specs.declared.read.Field.{Field}
 use Rattle.laws.proofs.Cases.{by}
-use Rattle.forms.specs.Form.{Took, took, stopped, onTook, Form, fieldTook, numberForm, wordForm, pairForm, mapForm, numberedForm, renumbered}
+use Rattle.forms.specs.Form.{Took, took, stopped, onTook, Form, numberForm, wordForm, pairForm, mapForm}
 use Rattle.forms.specs.declared.chain.Lined.{Lined}
-use Rattle.forms.specs.Chain.{linedOf, after, numberAfter, wordAfter}
+use Rattle.forms.specs.Chain.{after, numberAfter, wordAfter}
 
 -- what lines give, as a form has it
 abbrev pub tookOf : {A : Type 0} → Lined → A → Took A

@@ -1,6 +1,6 @@
 -- What holds of every rule's lines, on their definition. The group stopped at a refused line or was read whole: `rule-cases` goes by these cases. So it lies in its text (`rule-within`), one that was
 -- read takes some of it (`rule-further`), and the lent buffer begins with the pattern's bytes then (`pattern-part`). Assumes nothing.
-use Prim.Native.Nat.{ℕ, _+_, _-_, _/_, _≤_}
+use Prim.Native.Nat.{ℕ, _-_, _/_, _≤_}
 use mathlib.Core.Path.{_≡_, _∙_}
 use mathlib.Core.List.{List}
 use native.Mathlib.Omega.{arith}

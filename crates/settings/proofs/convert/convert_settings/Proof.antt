@@ -1,43 +1,63 @@
+-- `settings::convert::convert_settings` meets its contract: the text's own refusal, then that of the writing, each with nothing written; else the text that is written. Assumes nothing.
+use denote.Ref.{now}
+use Rattle.settings.proofs.convert.ConvertLaws.{convert-refused, convert-unwritten, convert-written}
 use borrow.Author.Needs.{needs}
 use Rattle.settings.proofs.convert.convert_settings.Statement.{statement}
 use Rattle.settings.proofs.convert.convert_settings.Tie as tie
-use Rattle.settings.proofs.convert.convert_settings.Reads as reads
-use Rattle.settings.proofs.convert.convert_settings.Lts as lts
-use Rattle.settings.proofs.convert.form_meant.Reads as form-meant-reads
-use Rattle.settings.proofs.load.load_settings.Reads as load-settings-reads
-use Rattle.settings.proofs.write.write_settings.Reads as write-settings-reads
 
--- src/convert.rt:31:9
+-- Each call has a place, just after it. From there, the place of the one before it, and before the first the function's beginning.
+abbrev of-form : tie.After-write-settings → tie.After-form-meant
+of-form c = c .before .before
+
+abbrev taken : tie.After-form-meant → tie.Else1
+taken c = c .before .before
+
+abbrev of-load : tie.Else1 → tie.After-load-settings
+of-load c = c .before .before
+
+abbrev of-start : tie.After-load-settings → tie.Start
+of-start c = c .before .before .before
+
 load-settings-requires : tie.Need-load-settings-requires
 load-settings-requires c κs = search needs
 
--- src/convert.rt:33:9
 returns : tie.Need-returns
-returns c = ?
+returns c =
+    let loaded = c .before .before in
+    let args = of-start loaded .args in
+    convert-refused (args .form) (now (args .out)) (now (args .text)) (loaded .load-settings .ensures) (c .if1 .taken)
 
--- src/convert.rt:40:37
 form-meant-requires : tie.Need-form-meant-requires
 form-meant-requires c κs = search needs
 
--- src/convert.rt:40:9
 write-settings-requires : tie.Need-write-settings-requires
 write-settings-requires c κs = search needs
 
--- src/convert.rt:42:9
 same-length : tie.Need-same-length
 same-length c = search needs
 
--- src/convert.rt:42:9
 returns-2 : tie.Need-returns-2
-returns-2 c = ?
+returns-2 c =
+    let written = c .before .before .before .before in
+    let meant = of-form written in
+    let tested = taken meant in
+    let loaded = of-load tested in
+    let args = of-start loaded .args in
+    convert-unwritten (args .form) (now (args .out)) (now (args .text)) (loaded .load-settings .ensures) (tested .if1 .left) (meant .form-meant .ensures)
+    (written .write-settings .ensures) (c .if2 .taken)
 
--- src/convert.rt:27:1
 same-length-2 : tie.Need-same-length-2
 same-length-2 c = search needs
 
--- src/convert.rt:27:1
 returns-3 : tie.Need-returns-3
-returns-3 c = ?
+returns-3 c =
+    let written = c .before .before .before .before in
+    let meant = of-form written in
+    let tested = taken meant in
+    let loaded = of-load tested in
+    let args = of-start loaded .args in
+    convert-written (args .form) (now (args .out)) (now (args .text)) (loaded .load-settings .ensures) (tested .if1 .left) (meant .form-meant .ensures)
+    (written .write-settings .ensures) (c .if2 .left)
 
 pub convert-settings-spec : {M : Type 1} → statement M
 convert-settings-spec =

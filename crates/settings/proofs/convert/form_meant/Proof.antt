@@ -1,15 +1,13 @@
+-- `settings::convert::form_meant` meets its contract: one test. Assumes nothing.
+use borrow.Author.Tests.{eq-eqb, ne-eqb}
 use Rattle.settings.proofs.convert.form_meant.Statement.{statement}
 use Rattle.settings.proofs.convert.form_meant.Tie as tie
-use Rattle.settings.proofs.convert.form_meant.Reads as reads
-use Rattle.settings.proofs.convert.form_meant.Lts as lts
 
--- src/convert.rt:21:9
 returns : tie.Need-returns
-returns c = ?
+returns c = rw (eq-eqb _ _ (c .if1 .taken))
 
--- src/convert.rt:17:1
 returns-2 : tie.Need-returns-2
-returns-2 c = ?
+returns-2 c = rw (ne-eqb _ _ (c .if1 .left))
 
 pub form-meant-spec : {M : Type 1} → statement M
 form-meant-spec = tie.close (tie.spec returns returns-2)

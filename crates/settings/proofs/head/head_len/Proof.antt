@@ -1,92 +1,117 @@
+-- `settings::head::head_len` meets its contract: the lengths of the five lines, summed up. Assumes nothing.
+use Prim.Native.Nat.{_+_, _≤_}
+use mathlib.Core.Path.{_≡_}
+use native.Mathlib.Omega.{arith}
+use lib.ListN.{length}
+use Rattle.settings.specs.SettingsText.{headLines}
+use Rattle.settings.proofs.head.HeadText.{HeadTyped, head-sum}
 use borrow.Author.Needs.{needs}
 use Rattle.settings.proofs.head.head_len.Statement.{statement}
 use Rattle.settings.proofs.head.head_len.Tie as tie
-use Rattle.settings.proofs.head.head_len.Reads as reads
-use Rattle.settings.proofs.head.head_len.Lts as lts
-use Rattle.lines.proofs.lengths.number_line_len.Reads as number-line-len-reads
-use Rattle.lines.proofs.lengths.word_line_len.Reads as word-line-len-reads
-use Rattle.settings.proofs.head.form_place.Reads as form-place-reads
-use Rattle.tables.proofs.rules.action_number.Reads as action-number-reads
 
--- src/head.rt:127:9
+-- the types of the values
+typed : (c : tie.After-form-place) → let args = c .before .args in HeadTyped (args .threshold) (args .window) (args .rules)
+typed c = record { threshold8 = search needs; window64 = search needs; rules16 = search needs }
+
+-- Each line's length has a place, just after its call. From there, the place of the one before it, and before the first the number of the default and the place of the form.
+abbrev window : tie.After-number-line-len3 → tie.After-number-line-len2
+window c = c .before .before
+
+abbrev threshold : tie.After-number-line-len2 → tie.After-number-line-len
+threshold c = c .before .before
+
+abbrev default : tie.After-number-line-len → tie.After-word-line-len2
+default c = c .before .before
+
+abbrev form : tie.After-word-line-len2 → tie.After-word-line-len
+form c = c .before .before .before
+
+abbrev of-action : tie.After-word-line-len → tie.After-action-number
+of-action c = c .before .before .before
+
+abbrev of-place : tie.After-action-number → tie.After-form-place
+of-place c = c .before
+
 form-place-requires : tie.Need-form-place-requires
 form-place-requires c κs = search needs
 
--- src/head.rt:128:18
 action-number-requires : tie.Need-action-number-requires
 action-number-requires c κs = search needs
 
--- src/head.rt:128:18
 cast-action : tie.Need-cast-action
 cast-action c = search needs
 
--- src/head.rt:129:27
 slice-aggregate-word-line-len : tie.Need-slice-aggregate-word-line-len
 slice-aggregate-word-line-len c = search needs
 
--- src/head.rt:129:37
 slice-aggregate-word-line-len-2 : tie.Need-slice-aggregate-word-line-len-2
 slice-aggregate-word-line-len-2 c = search needs
 
--- src/head.rt:129:9
 word-line-len-requires : tie.Need-word-line-len-requires
 word-line-len-requires c κs = search needs
 
--- src/head.rt:130:27
 slice-aggregate-word-line-len-3 : tie.Need-slice-aggregate-word-line-len-3
 slice-aggregate-word-line-len-3 c = search needs
 
--- src/head.rt:130:40
 slice-aggregate-word-line-len-4 : tie.Need-slice-aggregate-word-line-len-4
 slice-aggregate-word-line-len-4 c = search needs
 
--- src/head.rt:130:9
 word-line-len-requires-2 : tie.Need-word-line-len-requires-2
 word-line-len-requires-2 c κs = search needs
 
--- src/head.rt:131:29
 slice-aggregate-number-line-len : tie.Need-slice-aggregate-number-line-len
 slice-aggregate-number-line-len c = search needs
 
--- src/head.rt:131:9
 number-line-len-requires : tie.Need-number-line-len-requires
 number-line-len-requires c κs = search needs
 
--- src/head.rt:132:29
 slice-aggregate-number-line-len-2 : tie.Need-slice-aggregate-number-line-len-2
 slice-aggregate-number-line-len-2 c = search needs
 
--- src/head.rt:132:9
 number-line-len-requires-2 : tie.Need-number-line-len-requires-2
 number-line-len-requires-2 c κs = search needs
 
--- src/head.rt:133:29
 slice-aggregate-number-line-len-3 : tie.Need-slice-aggregate-number-line-len-3
 slice-aggregate-number-line-len-3 c = search needs
 
--- src/head.rt:133:9
 number-line-len-requires-3 : tie.Need-number-line-len-requires-3
 number-line-len-requires-3 c κs = search needs
 
--- src/head.rt:134:5
+sum : (c : tie.After-number-line-len3)
+    → let fourth = window c in
+    let third = threshold fourth in
+    let second = default third in
+    let first = form second in
+    let args = of-place (of-action first) .before .args in
+    let all =
+    first .word-line-len .result + second .word-line-len2 .result + third .number-line-len .result + fourth .number-line-len2 .result
+    + c .number-line-len3 .result in
+    (all ≡ length (headLines .text (args .form, (args .default-action, (args .threshold, (args .window, args .rules)))))) × (all ≤ 200)
+sum c =
+    let fourth = window c in
+    let third = threshold fourth in
+    let second = default third in
+    let first = form second in
+    let a = of-action first in
+    let k = of-place a in
+    let args = k .before .args in
+    head-sum (args .form) (args .default-action) (args .threshold) (args .window) (args .rules) (typed k) (k .form-place .ensures) (a .action-number .ensures)
+    (first .word-line-len .ensures) (second .word-line-len2 .ensures) (third .number-line-len .ensures) (fourth .number-line-len2 .ensures) (c .number-line-len3 .ensures)
+
 add-result : tie.Need-add-result
-add-result c = ?
+add-result c = omega (arith, sum c)
 
--- src/head.rt:134:5
 add-result-2 : tie.Need-add-result-2
-add-result-2 c = ?
+add-result-2 c = omega (arith, sum c)
 
--- src/head.rt:134:5
 add-result-3 : tie.Need-add-result-3
-add-result-3 c = ?
+add-result-3 c = omega (arith, sum c)
 
--- src/head.rt:134:5
 add-result-4 : tie.Need-add-result-4
-add-result-4 c = ?
+add-result-4 c = omega (arith, sum c)
 
--- src/head.rt:117:1
 returns : tie.Need-returns
-returns c = ?
+returns c = sum c
 
 pub head-len-spec : {M : Type 1} → statement M
 head-len-spec =

@@ -1,17 +1,13 @@
+-- `settings::read::not_read` meets its contract: number and line beside a table that is free. Assumes nothing.
 use borrow.Author.Needs.{needs}
 use Rattle.settings.proofs.read.not_read.Statement.{statement}
 use Rattle.settings.proofs.read.not_read.Tie as tie
-use Rattle.settings.proofs.read.not_read.Reads as reads
-use Rattle.settings.proofs.read.not_read.Lts as lts
-use Rattle.monitor.proofs.state.free_rules.Reads as free-rules-reads
 
--- src/read.rt:32:9
 free-rules-requires : tie.Need-free-rules-requires
 free-rules-requires c κs = search needs
 
--- src/read.rt:29:1
 returns : tie.Need-returns
-returns c = ?
+returns c = rw (c .free-rules .ensures)
 
 pub not-read-spec : {M : Type 1} → statement M
 not-read-spec = tie.close (tie.spec free-rules-requires returns)

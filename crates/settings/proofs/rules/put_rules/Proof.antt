@@ -1,50 +1,58 @@
+-- `settings::rules::put_rules` meets its contract: up to each turn the rules before it are written. Assumes nothing.
+use Prim.Native.Nat.{_-_, _≤_}
+use mathlib.Core.Path.{_≡_}
+use mathlib.Core.List.{[], map}
+use native.Mathlib.Omega.{arith}
+use lib.ListN.{length, take}
+use Rattle.lines.specs.Wrote.{Wrote}
+use Rattle.lines.proofs.put.WroteLaws.{wrote-none, wrote-then, wrote-length}
+use Rattle.forms.specs.Form.{textAll}
+use Rattle.rules_text.specs.RuleText.{ruleForm, ruleIn}
+use Rattle.settings.proofs.rules.RulesText.{rules-more}
+use borrow.Author.Needs.{needs}
 use Rattle.settings.proofs.rules.put_rules.Statement.{statement}
 use Rattle.settings.proofs.rules.put_rules.Tie as tie
-use Rattle.settings.proofs.rules.put_rules.Reads as reads
-use Rattle.settings.proofs.rules.put_rules.Lts as lts
-use Rattle.rules_text.proofs.put.put_rule.Reads as put-rule-reads
 
 abbrev Inv-loop : tie.InvT-loop
-Inv-loop out₀ at count rules p₀ i₀ out p i = ?
+Inv-loop out₀ at count rules p₀ i₀ out p i = (i ≤ count) × Wrote out₀ out at (textAll ruleForm [] (map ruleIn (take i rules))) p
 
 abbrev μ-loop : tie.MeasureT-loop
-μ-loop out₀ at count rules p₀ i₀ out p i = ?
+μ-loop out₀ at count rules p₀ i₀ out p i = count - i
 
--- src/rules.rt:107:5
 loop-holds : tie.Need-loop-holds Inv-loop μ-loop
-loop-holds c = ?
+unfolding textAll
+loop-holds c = (omega arith, wrote-none _ _)
 
--- src/rules.rt:108:20
 mul-rule : tie.Need-mul-rule Inv-loop μ-loop
-mul-rule c = ?
+mul-rule c = search needs
 
--- src/rules.rt:108:20
 array-copy-out-rule : tie.Need-array-copy-out-rule Inv-loop μ-loop
-array-copy-out-rule c = ?
+array-copy-out-rule c = search needs
 
--- src/rules.rt:109:9
 put-rule-requires : tie.Need-put-rule-requires Inv-loop μ-loop
-put-rule-requires c κs = ?
+put-rule-requires c κs = search needs
 
--- src/rules.rt:110:9
 add-i : tie.Need-add-i Inv-loop μ-loop
-add-i c = ?
+add-i c = search needs
 
--- src/rules.rt:107:5
 loop-less : tie.Need-loop-less Inv-loop μ-loop
-loop-less c = ?
+loop-less c = search needs
 
--- src/rules.rt:107:5
 loop-again : tie.Need-loop-again Inv-loop μ-loop
-loop-again c = ?
+loop-again c =
+    let put = c .before .before in
+    let turn = put .before .before .before .before in
+    let args = turn .before .before .args in
+    let n : length (args .t3) ≡ 32 = search needs in
+    (omega arith, rw (rules-more (args .t3) (turn .loop .i) (omega arith)) (wrote-then (turn .loop .inv .1) (put .put-rule .ensures)))
 
--- src/rules.rt:101:1
 same-length : tie.Need-same-length Inv-loop μ-loop
-same-length c = ?
+same-length c = wrote-length (c .before .loop .inv .1)
 
--- src/rules.rt:101:1
 returns : tie.Need-returns Inv-loop μ-loop
-returns c = ?
+returns c =
+    let turn = c .before in
+    let e : turn .loop .i ≡ turn .before .before .args .count = omega arith in rw e at (turn .loop .inv .1)
 
 pub put-rules-spec : {M : Type 1} → statement M
 put-rules-spec =

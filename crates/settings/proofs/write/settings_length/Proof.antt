@@ -1,52 +1,63 @@
+-- `settings::write::settings_length` meets its contract: 10, then 29; else the lengths of the lines before the rules and of the rules. Assumes nothing.
+use mathlib.Core.Bool.{true}
+use mathlib.Core.Path.{_≡_, sym, _∙_}
+use lib.ListN.{length, length-map}
+use borrow.Author.Tests.{not-true, not-false}
+use Rattle.monitor.specs.State.{wellFormed}
+use Rattle.monitor.proofs.state.FormedLaws.{formed-parts}
+use Rattle.settings.proofs.write.WriteLaws.{settings-sum, not-formed, not-known}
 use borrow.Author.Needs.{needs}
 use Rattle.settings.proofs.write.settings_length.Statement.{statement}
 use Rattle.settings.proofs.write.settings_length.Tie as tie
-use Rattle.settings.proofs.write.settings_length.Reads as reads
-use Rattle.settings.proofs.write.settings_length.Lts as lts
-use Rattle.monitor.proofs.state.well_formed.Reads as well-formed-reads
-use Rattle.settings.proofs.head.head_len.Reads as head-len-reads
-use Rattle.settings.proofs.rules.rules_len.Reads as rules-len-reads
-use Rattle.settings.proofs.write.unwritten.Reads as unwritten-reads
 
--- src/write.rt:32:9
+-- after the first test the monitor is well formed
+formed : (c : tie.Else1) → wellFormed (c .before .before .args .m) ≡ true
+formed c = let tested = c .before .well-formed in sym (tested .ensures) ∙ not-false (tested .result) (c .if1 .left)
+
+-- the table of rules is an array of 32; the state has too many fields for the checker to see it by itself
+full : (c : tie.Start) → length (c .args .m .rules) ≡ 32
+full c = sym (length-map (c .args .m .rules) _) ∙ c .good .0 .1 .1 .0 .1 .0 .1
+
 well-formed-requires : tie.Need-well-formed-requires
 well-formed-requires c κs = search needs
 
--- src/write.rt:33:9
 unwritten-requires : tie.Need-unwritten-requires
 unwritten-requires c κs = search needs
 
--- src/write.rt:33:9
 returns : tie.Need-returns
-returns c = ?
+returns c =
+    let tested = c .before .before in
+    let args = tested .before .args in
+    c .unwritten .ensures ∙ not-formed (args .form) (args .m) (sym (tested .well-formed .ensures) ∙ not-true (tested .well-formed .result) (c .before .if1 .taken))
 
--- src/write.rt:36:9
 unwritten-requires-2 : tie.Need-unwritten-requires-2
 unwritten-requires-2 c κs = search needs
 
--- src/write.rt:36:9
 returns-2 : tie.Need-returns-2
-returns-2 c = ?
+returns-2 c =
+    let known = c .before in
+    let args = known .before .before .before .args in
+    c .unwritten2 .ensures ∙ not-known (args .form) (args .m) (formed (known .before)) (known .if2 .taken)
 
--- src/write.rt:40:9
 head-len-requires : tie.Need-head-len-requires
 head-len-requires c κs = search needs
 
--- src/write.rt:49:41
 cast-rules-len : tie.Need-cast-rules-len
 cast-rules-len c = search needs
 
--- src/write.rt:49:24
 rules-len-requires : tie.Need-rules-len-requires
-rules-len-requires c κs = ?
+rules-len-requires c κs = let tested = c .before .before .before .before in formed-parts (tested .before .before .args .m) (formed tested) .count
 
--- src/write.rt:49:17
 add-t10 : tie.Need-add-t10
 add-t10 c = search needs
 
--- src/write.rt:29:1
 returns-3 : tie.Need-returns-3
-returns-3 c = ?
+returns-3 c =
+    let head = c .before .before in
+    let known = head .before .before in
+    let tested = known .before in
+    let args = tested .before .before .args in
+    settings-sum (args .form) (args .m) (full (tested .before .before)) (formed tested) (known .if2 .left) (head .head-len .ensures .0) (c .rules-len .ensures .0)
 
 pub settings-length-spec : {M : Type 1} → statement M
 settings-length-spec =

@@ -1,0 +1,53 @@
+-- What is claimed of settings and their text (request C-13). Both laws are over whole texts. The proofs are in proofs/OneToOne.antt. How a monitor matches is not yet one of its settings (request C-18):
+-- what is written of one that matches by the standard loads to one that matches as the Rust does.
+-- Assumes nothing.
+use mathlib.Core.Bool.{true}
+use mathlib.Core.List.{List}
+use mathlib.Core.Path.{_≡_}
+use Prim.Native.Nat.{ℕ, _≤_}
+use lib.ListN.{length}
+use lib.Seq.{sets}
+use Rattle.forms.specs.Form.{took}
+use Rattle.monitor.specs.Prepared.{Prepared}
+use Rattle.monitor.specs.Ranged.{Ranged}
+use Rattle.monitor.specs.Reached.{Reached}
+use Rattle.monitor.specs.Sound.{Sound}
+use Rattle.monitor.specs.declared.state.MqttMonitor.{MqttMonitor}
+use Rattle.settings.specs.Convert.{convertEnd, convertKept}
+use Rattle.settings.specs.Loaded.{settingsText, monitorOf, loadedOf, SameSettings}
+use Rattle.settings.specs.SettingsText.{Settings, isForm, settingsForm, settingsOf}
+
+-- a text is accepted: it has these settings, and this is its last line
+abbrev pub Accepted : List ℕ → Settings → ℕ → Type 0
+Accepted s v line = settingsOf s ≡ took v (length s) line
+
+-- a text loads to a monitor with the settings of another, field by field
+pub record LoadsTo (s : List ℕ) (m : MqttMonitor) : Type 0 where
+  pub number : loadedOf (settingsOf s) .number ≡ 0
+  pub same : SameSettings (loadedOf (settingsOf s) .monitor) m
+
+pub record OneToOne : Type 0 where
+  -- what is written of any state that calls handed out, in any form that is known, loads to a monitor with the same settings; its numbers are within their types, as those of every value of the code are
+  pub written-loads : (form : ℕ) (m : MqttMonitor) → isForm form ≡ true → Reached m → Ranged m → LoadsTo (settingsText form m) m
+  -- any accepted text is written back byte for byte, in its own form, from the monitor that it loads to
+  pub loaded-written : (s : List ℕ) {v : Settings} {line : ℕ} → Accepted s v line → settingsText (v .form) (monitorOf v) ≡ s
+  -- so accepted texts and settings correspond one to one: texts with the same settings are one text, and settings that fit have one
+  pub one-text : (s t : List ℕ) {v : Settings} {line other : ℕ} → Accepted s v line → Accepted t v other → s ≡ t
+  pub a-text : (v : Settings) → settingsForm .fits v → Accepted (settingsForm .text v) v (settingsForm .count v)
+  -- a text that is loaded at all is accepted: nothing of it is left over
+  pub whole : (s : List ℕ) {v : Settings} {place line : ℕ} → settingsOf s ≡ took v place line → Accepted s v line
+  -- none is longer than 5,532 bytes
+  pub longest : (s : List ℕ) {v : Settings} {line : ℕ} → Accepted s v line → length s ≤ 5532
+  -- `convert_settings`, asked for a text's own form, hands an accepted text back as it is, where there is room for it
+  pub given-back :
+      (s d : List ℕ) {v : Settings} {line : ℕ} → Accepted s v line → length s ≤ length d
+      → (convertEnd 0 (length d) s ≡ record { number = 0; line = line; length = length s }) × (convertKept 0 d s ≡ sets d 0 s)
+
+-- A loaded monitor is one that calls make: a constructor, the CONNECT settings, and its rules added one by one
+pub record MadeByCalls : Type 0 where
+  pub prepared : (s : List ℕ) {v : Settings} {line : ℕ} → Accepted s v line → Prepared (monitorOf v)
+  pub reached : (s : List ℕ) {v : Settings} {line : ℕ} → Accepted s v line → Reached (monitorOf v)
+  -- so it is sound, and number 10 is never met in it or after it
+  pub sound : (s : List ℕ) {v : Settings} {line : ℕ} → Accepted s v line → Sound (monitorOf v)
+  -- and its numbers are within their types
+  pub ranged : (s : List ℕ) {v : Settings} {line : ℕ} → Accepted s v line → Ranged (monitorOf v)
