@@ -18,7 +18,7 @@ mod windows;
 
 use met::Met;
 use pairs::Pairs;
-use scribe::{MAKERS, Maker};
+use scribe::Maker;
 use std::fmt::Display;
 use std::io::{Read, Write};
 use std::process::{Command, Stdio};
@@ -44,7 +44,7 @@ fn main() {
     let mut run = Run { program, met: Met::default(), sides, classes: Vec::new() };
     for seed in seeds {
         let mut random = Random(seed);
-        for maker in MAKERS {
+        for maker in scribe::makers() {
             run.scripts(maker, seed, &mut random, &pairs);
         }
     }
