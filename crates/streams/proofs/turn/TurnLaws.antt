@@ -14,9 +14,9 @@ use mir.Syntax.{w32, w64}
 use mir.Val.{SFits, ofZ, toZ}
 use mir.ValLaws.{toZ-ofZ}
 use Rattle.io.specs.Counts.{clamped}
-use Rattle.hubtrace.specs.Turns.{missedOf, turnOf, Fits}
-use Rattle.hubtrace.specs.declared.turn.Turn.{Turn}
-use Rattle.hubtrace.specs.declared.turn.Turn.the-variants.{Moved, Again, Failed}
+use Rattle.streams.specs.Turns.{missedOf, turnOf, Fits}
+use Rattle.streams.specs.declared.turn.Turn.{Turn}
+use Rattle.streams.specs.declared.turn.Turn.the-variants.{Moved, Again, Failed}
 
 -- a number whose bits are those of `n` is the number that these bits spell
 spelled : (z : ℤ) (n : ℕ) → SFits w32 z → ofZ w32 z ≡ n → z ≡ toZ w32 n

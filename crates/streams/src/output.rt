@@ -1,6 +1,6 @@
 // Standard output, all of an answer or a word that it is not.
 ghost use lib.ListN.{length};
-ghost use Rattle.hubtrace.specs.Turns.{Fits, Whole};
+ghost use Rattle.streams.specs.Turns.{Fits, Whole};
 use crate::turn;
 use crate::turn::Done;
 use crate::turn::Turn;

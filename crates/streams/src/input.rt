@@ -1,6 +1,6 @@
-// Standard input, all of it or none: an end of input is told from a read that failed, and a part of a trace is never taken for the whole.
+// Standard input, all of it or none: an end of input is told from a read that failed, and a part of a text is never taken for the whole.
 ghost use lib.ListN.{length};
-ghost use Rattle.hubtrace.specs.Turns.{DoneWithin, Fits};
+ghost use Rattle.streams.specs.Turns.{DoneWithin, Fits};
 use crate::turn;
 use crate::turn::Done;
 use crate::turn::Turn;

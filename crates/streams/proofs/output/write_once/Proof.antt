@@ -1,9 +1,9 @@
 -- `write_once` meets its contract. Assumes nothing.
 use mathlib.Core.Path.{refl}
 use borrow.Author.Needs.{needs}
-use Rattle.hubtrace.proofs.turn.TurnLaws.{came-fits}
-use Rattle.hubtrace.proofs.output.write_once.Statement.{statement}
-use Rattle.hubtrace.proofs.output.write_once.Tie as tie
+use Rattle.streams.proofs.turn.TurnLaws.{came-fits}
+use Rattle.streams.proofs.output.write_once.Statement.{statement}
+use Rattle.streams.proofs.output.write_once.Tie as tie
 
 write-requires : tie.Need-write-requires
 write-requires c κs = search needs

@@ -1,7 +1,7 @@
 -- `missed` meets its contract. Assumes nothing.
-use Rattle.hubtrace.proofs.turn.TurnLaws.{missed-interrupted, missed-blocked, missed-failed}
-use Rattle.hubtrace.proofs.turn.missed.Statement.{statement}
-use Rattle.hubtrace.proofs.turn.missed.Tie as tie
+use Rattle.streams.proofs.turn.TurnLaws.{missed-interrupted, missed-blocked, missed-failed}
+use Rattle.streams.proofs.turn.missed.Statement.{statement}
+use Rattle.streams.proofs.turn.missed.Tie as tie
 
 returns : tie.Need-returns
 returns c = missed-interrupted _ (c .before .fits .error) (c .if1 .taken)

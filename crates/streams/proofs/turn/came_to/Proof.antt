@@ -1,8 +1,8 @@
 -- `came_to` meets its contract. Assumes nothing.
 use borrow.Author.Needs.{needs}
-use Rattle.hubtrace.proofs.turn.TurnLaws.{came-missed, came-moved}
-use Rattle.hubtrace.proofs.turn.came_to.Statement.{statement}
-use Rattle.hubtrace.proofs.turn.came_to.Tie as tie
+use Rattle.streams.proofs.turn.TurnLaws.{came-missed, came-moved}
+use Rattle.streams.proofs.turn.came_to.Statement.{statement}
+use Rattle.streams.proofs.turn.came_to.Tie as tie
 
 missed-requires : tie.Need-missed-requires
 missed-requires c κs = search needs

@@ -5,9 +5,9 @@ use mathlib.Core.Path.{_≡_}
 use native.Mathlib.Omega.{arith}
 use borrow.Author.Needs.{needs}
 use lib.ListN.{length}
-use Rattle.hubtrace.proofs.turn.TurnLaws.{moved-within}
-use Rattle.hubtrace.proofs.input.read_all.Statement.{statement}
-use Rattle.hubtrace.proofs.input.read_all.Tie as tie
+use Rattle.streams.proofs.turn.TurnLaws.{moved-within}
+use Rattle.streams.proofs.input.read_all.Statement.{statement}
+use Rattle.streams.proofs.input.read_all.Tie as tie
 
 abbrev Inv-loop : tie.InvT-loop
 Inv-loop fd buf₀ n₀ left₀ buf n left = (n ≤ length buf) × (length buf ≡ length buf₀)

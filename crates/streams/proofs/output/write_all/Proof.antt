@@ -3,9 +3,9 @@ use Prim.Native.Nat.{_+_, _≤_}
 use native.Mathlib.Omega.{arith}
 use borrow.Author.Needs.{needs}
 use lib.ListN.{length}
-use Rattle.hubtrace.proofs.turn.TurnLaws.{moved-within}
-use Rattle.hubtrace.proofs.output.write_all.Statement.{statement}
-use Rattle.hubtrace.proofs.output.write_all.Tie as tie
+use Rattle.streams.proofs.turn.TurnLaws.{moved-within}
+use Rattle.streams.proofs.output.write_all.Statement.{statement}
+use Rattle.streams.proofs.output.write_all.Tie as tie
 
 abbrev Inv-loop : tie.InvT-loop
 Inv-loop fd buf n₀ left₀ n left = n ≤ length buf

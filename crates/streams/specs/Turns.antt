@@ -1,13 +1,13 @@
--- What the program makes of the C library's answers to `read` and `write`: which calls are made again, and what it may call all of an input or an output.
+-- What a program makes of the C library's answers to `read` and `write`: which calls are made again, and what it may call all of an input or an output.
 use Prim.Native.Nat.{ℕ, _≤_, min}
 use mathlib.Core.Path.{_≡_}
 use mathlib.Core.Bool.{cond, _||_}
 use lib.Dec.{eqb}
 use lib.IntN.{ℤ, pos, negsuc}
-use Rattle.hubtrace.specs.declared.turn.Turn.{Turn}
-use Rattle.hubtrace.specs.declared.turn.Turn.the-variants as turn
-use Rattle.hubtrace.specs.declared.turn.Done.{Done}
-use Rattle.hubtrace.specs.declared.turn.Done.the-variants as done
+use Rattle.streams.specs.declared.turn.Turn.{Turn}
+use Rattle.streams.specs.declared.turn.Turn.the-variants as turn
+use Rattle.streams.specs.declared.turn.Done.{Done}
+use Rattle.streams.specs.declared.turn.Done.the-variants as done
 
 -- a call that moved nothing, by errno: 4 is EINTR, a signal came first; 11 is EAGAIN, the pipe was not ready. Any other is a failure
 unfoldable pub missedOf : ℤ → Turn

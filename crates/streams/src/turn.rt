@@ -1,7 +1,7 @@
 // What one call of `read` or `write` came to. The C library answers -1 for whatever went wrong, and leaves the reason in errno.
 ghost use mathlib.Core.Path.{_≡_};
 ghost use lib.ListN.{length};
-ghost use Rattle.hubtrace.specs.Turns.{turnOf, missedOf};
+ghost use Rattle.streams.specs.Turns.{turnOf, missedOf};
 
 // The call moved so many bytes; or it did nothing this time, and is to be made again; or it failed.
 pub enum Turn {
