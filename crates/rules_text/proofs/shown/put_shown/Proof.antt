@@ -1,4 +1,4 @@
--- `trace::standing_lines::put_shown` meets its contract. The invariant: the first `i` bytes of `topic` are written from `at` on as they are shown, and `p` is the place after them; the measure:
+-- `rules_text::shown::put_shown` meets its contract. The invariant: the first `i` bytes of `topic` are written from `at` on as they are shown, and `p` is the place after them; the measure:
 -- the bytes of `topic` that are left. Assumes nothing.
 use Prim.Native.Nat.{_≤_, _-_}
 use mathlib.Core.List.{map}
@@ -7,9 +7,9 @@ use lib.ListN.{length, take}
 use Rattle.lines.specs.Wrote.{Wrote}
 use Rattle.lines.proofs.put.WroteLaws.{wrote-none, wrote-length}
 use Rattle.topics.specs.Shown.{shownByte}
-use Rattle.trace.proofs.standing_lines.TextLaws.{shown-turn, shown-done}
-use Rattle.trace.proofs.standing_lines.put_shown.Statement.{statement}
-use Rattle.trace.proofs.standing_lines.put_shown.Tie as tie
+use Rattle.rules_text.proofs.shown.ShownLaws.{shown-turn, shown-done}
+use Rattle.rules_text.proofs.shown.put_shown.Statement.{statement}
+use Rattle.rules_text.proofs.shown.put_shown.Tie as tie
 
 abbrev Inv-loop : tie.InvT-loop
 Inv-loop out₀ at topic whole p₀ i₀ out p i = (i ≤ length topic) × Wrote out₀ out at (map (shownByte whole) (take i topic)) p
