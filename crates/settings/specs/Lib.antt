@@ -3,3 +3,4 @@ pub mod Head
 pub mod Kept
 pub mod Loaded
 pub mod SettingsText
+pub mod Told
