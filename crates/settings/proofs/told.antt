@@ -1,1 +1,2 @@
+mod GivenLaws
 mod TellLaws

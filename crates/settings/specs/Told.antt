@@ -12,11 +12,12 @@ use Rattle.topics.specs.Shown.{shown}
 use Rattle.lines.specs.Decimal.{decimal}
 use Rattle.lines.specs.Line.{numberLine, hexLine, wordLine, secondsLine}
 use Rattle.lines.specs.Word.{wordText}
+use Rattle.forms.specs.Form.{Took, took, stopped}
 use Rattle.tables.specs.Numbers.{actionNumber, policyNumber}
 use Rattle.tables.specs.declared.rules.QosPolicy.{QosPolicy}
 use Rattle.tables.specs.declared.rules.TopicAction.{TopicAction}
 use Rattle.rules_text.specs.RuleText.{RuleText, ruleIn}
-use Rattle.settings.specs.Kept.{readOf}
+use Rattle.settings.specs.SettingsText.{Settings, settingsOf}
 use Rattle.settings.specs.declared.read.SettingsRead.{SettingsRead}
 use Rattle.settings.specs.declared.told.SettingsTold.{SettingsTold}
 
@@ -43,7 +44,7 @@ rateTold rate = cond (eqb rate 0) (bytes ", no rate limit\n") (bytes ", at most 
 unfoldable pub rulingTold : ℕ → TopicAction → QosPolicy → ℕ → List ℕ
 rulingTold place action policy rate =
     decimal place ++ wordText (bytes ". allow|. block") (actionNumber action)
-    ++ wordText (bytes ", any QoS|, QoS 0 or more|, QoS 1 or more|, QoS 2 or more|, only QoS 0|, only QoS 1|, only QoS 2") (policyNumber policy) ++ rateTold rate
+    ++ wordText (bytes ", any QoS|, alert below QoS 0|, alert below QoS 1|, alert below QoS 2|, alert unless QoS 0|, alert unless QoS 1|, alert unless QoS 2") (policyNumber policy) ++ rateTold rate
 
 -- its pattern
 unfoldable pub patternTold : List ℕ → List ℕ
@@ -58,26 +59,41 @@ unfoldable pub rulesTold : ℕ → List RuleText → List ℕ
 rulesTold place [] = []
 rulesTold place (r ∷ rs) = ruleTold place r ++ rulesTold (place + 1) rs
 
--- what was read of a text
-unfoldable pub settingsTold : SettingsRead → List ℕ
-settingsTold r =
-    headTold (r .form) (r .«default_action») (r .threshold) (r .window) (r .«rule_count») ++ rulesTold 1 (map ruleIn (take (r .«rule_count») (r .rules)))
+-- all that the text sets
+unfoldable pub settingsTold : Settings → List ℕ
+settingsTold v = headTold (v .form) (v .default) (v .threshold) (v .window) (length (v .rules)) ++ rulesTold 1 (v .rules)
 
--- all that is said
-unfoldable pub toldOf : SettingsRead → List ℕ
-toldOf r = closingTold (r .number) (r .line) ++ cond (eqb (r .number) 0) (settingsTold r) []
+-- all that is said of a text, by what it gives
+unfoldable pub toldOf : Took Settings → List ℕ
+toldOf (took v p l) = closingTold 0 l ++ settingsTold v
+toldOf (stopped n l) = closingTold n l
 
 unfoldable pub toldText : List ℕ → List ℕ
-toldText s = toldOf (readOf s)
+toldText s = toldOf (settingsOf s)
+
+-- the same as an answer, with how many bytes are said
+unfoldable pub toldAs : Took Settings → ℕ → SettingsTold
+toldAs (took v p l) length = record { number = 0; line = l; length = length }
+toldAs (stopped n l) length = record { number = n; line = l; length = length }
 
 -- room for what is said of any text; in less of it nothing is said, and the number is 28
 abbrev pub toldRoom : ℕ
 toldRoom = 16384
 
 unfoldable pub toldEnd : ℕ → List ℕ → SettingsTold
-toldEnd room s =
-    cond (leb toldRoom room) (record { number = readOf s .number; line = readOf s .line; length = length (toldText s) }) (record { number = 28; line = 0; length = 0 })
+toldEnd room s = cond (leb toldRoom room) (toldAs (settingsOf s) (length (toldText s))) (record { number = 28; line = 0; length = 0 })
 
 -- the lent buffer then
 unfoldable pub toldKept : List ℕ → List ℕ → List ℕ
 toldKept d s = cond (leb toldRoom (length d)) (sets d 0 (toldText s)) d
+
+-- what the reader of a text hands back, as settings
+abbrev pub settingsGiven : SettingsRead → Settings
+settingsGiven r =
+    record {
+      form = r .form;
+      default = r .«default_action»;
+      threshold = r .threshold;
+      window = r .window;
+      rules = map ruleIn (take (r .«rule_count») (r .rules));
+    }

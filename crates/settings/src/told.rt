@@ -8,7 +8,7 @@ ghost use mathlib.Core.Path.{_≡_};
 ghost use Prim.Native.Nat.{_≤_};
 ghost use lib.ListN.{length};
 ghost use Rattle.lines.specs.Wrote.{Wrote};
-ghost use Rattle.settings.specs.Told.{settingsTold, toldText, toldRoom, toldEnd, toldKept};
+ghost use Rattle.settings.specs.Told.{settingsTold, settingsGiven, toldText, toldRoom, toldEnd, toldKept};
 
 // Room for what is told of any text.
 const ROOM: usize = 16384;
@@ -23,8 +23,8 @@ pub struct SettingsTold {
 // The settings of a text that was read.
 fn put_settings(out: &mut [u8], at: usize, found: SettingsRead) -> usize
     requires { ⌜ found .«rule_count» ≤ 32 ⌝ }
-    ensures text { λ r. ⌜ Wrote (now (out .entry)) (now (out .exit)) at (settingsTold found) r ⌝ }
-    ensures short { λ _. ⌜ length (settingsTold found) ≤ 10580 ⌝ }
+    ensures text { λ r. ⌜ Wrote (now (out .entry)) (now (out .exit)) at (settingsTold (settingsGiven found)) r ⌝ }
+    ensures short { λ _. ⌜ length (settingsTold (settingsGiven found)) ≤ 10580 ⌝ }
 {
     let default_action = found.default_action;
     let rules = found.rules;

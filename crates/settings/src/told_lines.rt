@@ -14,6 +14,7 @@ use tables::rules::TopicRule;
 use tables::rules::action_number;
 use tables::rules::policy_number;
 use tables::rules::used;
+ghost use mathlib.Core.Path.{_≡_};
 ghost use mathlib.Core.List.{map};
 ghost use Prim.Native.Nat.{_*_, _≤_};
 ghost use lib.ListN.{length, take};
@@ -108,7 +109,7 @@ fn put_ruling(
     let after_policy = put_word(
         out,
         after_action,
-        b", any QoS|, QoS 0 or more|, QoS 1 or more|, QoS 2 or more|, only QoS 0|, only QoS 1|, only QoS 2",
+        b", any QoS|, alert below QoS 0|, alert below QoS 1|, alert below QoS 2|, alert unless QoS 0|, alert unless QoS 1|, alert unless QoS 2",
         policy_place,
     );
     put_rate(out, after_policy, rate)
@@ -147,6 +148,7 @@ pub(crate) fn put_rules_told(
     requires { ⌜ count ≤ 32 ⌝ }
     ensures text { λ r. ⌜ Wrote (now (out .entry)) (now (out .exit)) at (rulesTold 1 (map ruleIn (take count rules))) r ⌝ }
     ensures short { λ _. ⌜ length (rulesTold 1 (map ruleIn (take count rules))) ≤ count * 320 ⌝ }
+    ensures all { λ _. ⌜ length (take count rules) ≡ count ⌝ }
 {
     let mut p = at;
     let mut i = 0;

@@ -55,9 +55,9 @@ action-long Allow = omega arith
 action-long Block = omega arith
 
 abbrev pub policies : List ℕ
-policies = bytes ", any QoS|, QoS 0 or more|, QoS 1 or more|, QoS 2 or more|, only QoS 0|, only QoS 1|, only QoS 2"
+policies = bytes ", any QoS|, alert below QoS 0|, alert below QoS 1|, alert below QoS 2|, alert unless QoS 0|, alert unless QoS 1|, alert unless QoS 2"
 
-policy-long : (q : QosPolicy) → length (wordText policies (policyNumber q)) ≤ 15
+policy-long : (q : QosPolicy) → length (wordText policies (policyNumber q)) ≤ 20
 unfolding wordText firstWord restWords
 policy-long Any = omega arith
 policy-long (MinQoS AtMostOnce) = omega arith

@@ -4,6 +4,7 @@ use mathlib.Core.Path.{_≡_}
 use mathlib.Core.List.{map}
 use native.Mathlib.Omega.{arith}
 use lib.ListN.{length, take}
+use lib.Seq.{length-take-le}
 use Rattle.lines.specs.Wrote.{Wrote}
 use Rattle.lines.proofs.put.WroteLaws.{wrote-none, wrote-then, wrote-length}
 use Rattle.rules_text.specs.RuleText.{ruleIn}
@@ -56,7 +57,11 @@ same-length c = wrote-length (c .before .loop .inv .1 .0)
 returns : tie.Need-returns Inv-loop μ-loop
 returns c =
     let turn = c .before in
-    let e : turn .loop .i ≡ turn .before .before .args .count = omega arith in rw e at (turn .loop .inv .1)
+    let args = turn .before .before .args in
+    let n : length (args .t3) ≡ 32 = search needs in
+    let e : turn .loop .i ≡ args .count = omega arith in
+    let told = rw e at (turn .loop .inv .1) in
+    (told .0, (told .1, length-take-le (args .count) (args .t3) (omega arith)))
 
 pub put-rules-told-spec : {M : Type 1} → statement M
 put-rules-told-spec =
