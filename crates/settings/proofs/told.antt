@@ -1,0 +1,2 @@
+mod GivenLaws
+mod TellLaws
