@@ -48,7 +48,10 @@ loop-again c =
     let n : length (args .t3) ≡ 32 = search needs in
     let told = put .put-rule-told .ensures in (
       omega arith,
-      (rw (rules-more (args .t3) (turn .loop .i) (omega arith)) (wrote-then (turn .loop .inv .1 .0) (told .0)), rules-longer (args .t3) (turn .loop .i) (omega arith) (turn .loop .inv .1 .1) (told .1)),
+      (
+        rw (rules-more (args .t3) (turn .loop .i) (omega arith)) (wrote-then (turn .loop .inv .1 .0) (told .0)),
+        rules-longer (args .t3) (turn .loop .i) (omega arith) (turn .loop .inv .1 .1) (told .1),
+      ),
     )
 
 same-length : tie.Need-same-length Inv-loop μ-loop

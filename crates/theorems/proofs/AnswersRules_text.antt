@@ -7,6 +7,8 @@ use Rattle.rules_text.proofs.put.put_rule as put-put-rule
 use Rattle.rules_text.proofs.put.put_rule.Reads as put-put-rule-reads
 use Rattle.rules_text.proofs.put.rule_len as put-rule-len
 use Rattle.rules_text.proofs.put.rule_len.Reads as put-rule-len-reads
+use Rattle.rules_text.proofs.shown.put_shown as shown-put-shown
+use Rattle.rules_text.proofs.shown.put_shown.Reads as shown-put-shown-reads
 use Rattle.theorems.specs.One.{Any, One, OneLeft}
 use Rattle.theorems.proofs.AnswersLines.{wrote-once}
 
@@ -27,3 +29,9 @@ one-put-rule-len κs a x y e f p q = p .0 ∙ sym (q .0)
 
 pub any-put-rule-len : Any put-rule-len.ended put-rule-len-reads.Asked
 any-put-rule-len κs a = tt
+
+pub one-shown-put-shown : OneLeft shown-put-shown.ended shown-put-shown-reads.Post (λ κs e. now (e .0))
+one-shown-put-shown κs a x y e f p q = wrote-once p q
+
+pub any-shown-put-shown : Any shown-put-shown.ended shown-put-shown-reads.Asked
+any-shown-put-shown κs a = tt
