@@ -9,8 +9,8 @@
  * - a length is at most PTRDIFF_MAX and lies within the object that its pointer points into;
  * - the bytes that are read are initialised, and nothing changes them during the call; `out` need not be initialised;
  * - what a function writes to overlaps no other argument, and nothing else reads or writes it during the call;
- * - there is room on the stack: 96 KiB for a call whose name begins with hub_standing, 48 KiB for one whose name begins
- *   with hub_trace, 1 KiB for any other (see below).
+ * - there is room on the stack: 96 KiB for a call whose name begins with hub_standing, 48 KiB for hub_settings and for one
+ *   whose name begins with hub_trace, 1 KiB for any other (see below).
  *
  * Each call then returns, allocates nothing, keeps no pointer and has no state: equal arguments give equal answers, on
  * any thread. A bool is 0 or 1.
@@ -53,6 +53,14 @@ struct HubTrace {
                         which has no such line, since nothing is written */
     uint64_t line;   /* the last line of a whole trace, else the refused one; 0 with 27 and 28 */
     size_t length;   /* how many bytes the answer has; 0 with 28 */
+};
+
+/* How settings were written back. */
+struct HubSettings {
+    uint32_t number; /* 0, or the number of the refusal */
+    uint64_t line;   /* the last line of a text that loads, else the refused one; 0 with 27, 28, and 29 for the form that
+                        was asked for */
+    size_t length;   /* how many bytes were written; 0 with any refusal */
 };
 
 /* FNV-1a of the data, 32 bits. Refuses nothing. */
@@ -117,6 +125,13 @@ struct HubTrace hub_trace_length(const uint8_t *text, size_t text_len);
  * first to match can differ, and what follows from that (docs/DIFFERENCES.md). */
 struct HubTrace hub_trace_standard(const uint8_t *text, size_t text_len, uint8_t *out, size_t out_len);
 struct HubTrace hub_trace_standard_length(const uint8_t *text, size_t text_len);
+
+/* Loads a settings text to a fresh monitor and writes that monitor's settings to the front of `out`: in the form that is
+ * asked for, 0 for the text's own. So far there is form 1. The rest of `out` is left as it was. A text that loads is
+ * written back byte for byte in its own form, so there an `out` as long as the text is enough (proved). Refuses the text
+ * with 9, 21 to 27, 29, 35 and 36, at its line; after that a `form` that is not known with 29, and an `out` that the
+ * settings do not fit into with 28, both with line 0. With any refusal the length is 0 and nothing is written. */
+struct HubSettings hub_settings(const uint8_t *text, size_t text_len, uint32_t form, uint8_t *out, size_t out_len);
 
 /* Where the limit stands after a whole trace: the lines of docs/STANDING.md, which follow the answer of hub_trace, or of
  * hub_trace_standard, where they are asked for. They go to the front of `out`, and the rest of it is left as it was.

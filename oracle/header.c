@@ -103,7 +103,11 @@ static bool ended(struct HubTrace end, uint32_t number, uint64_t line, size_t le
     return end.number == number && end.line == line && end.length == length;
 }
 
-/* Whether all of the room from a place on is as `tracing` painted it. */
+static bool written(struct HubSettings end, uint32_t number, uint64_t line, size_t length) {
+    return end.number == number && end.line == line && end.length == length;
+}
+
+/* Whether all of the room from a place on is as it was painted. */
 static bool untouched(size_t from) {
     while (from < sizeof room && room[from] == 0xa5)
         from++;
@@ -152,6 +156,25 @@ static void choosing(void) {
                                hub_trace_standard_length(BYTES(dollar)).length == sizeof denied - 1);
 }
 
+/* Settings that come back byte for byte, or are refused with nothing written. */
+static void saving(void) {
+    static const char saved[] = "form=1\ndefault=block\nthreshold=5\nwindow=60000000\nrules=1\n"
+                                "pattern=6d2f2b\naction=allow\nqos=min1\nrate=1\n";
+    const size_t length = sizeof saved - 1;
+    memset(room, 0xa5, sizeof room);
+    holds("28 where the room for settings is a byte too short", written(hub_settings(BYTES(saved), 0, room, length - 1), 28, 0, 0));
+    holds("29 for a form that is not known", written(hub_settings(BYTES(saved), 2, room, sizeof room), 29, 0, 0));
+    holds("29 for a text in one", written(hub_settings(BYTES("form=2\n"), 1, room, sizeof room), 29, 1, 0));
+    holds("26 where the text stops short", written(hub_settings(BYTES(saved) - 1, 0, room, sizeof room), 26, 9, 0));
+    holds("27 for a text over the longest", written(hub_settings(longer, sizeof longer, 0, room, sizeof room), 27, 0, 0));
+    holds("each writes nothing", untouched(0));
+    holds("settings are written", written(hub_settings(BYTES(saved), 0, room, length), 0, 9, length));
+    holds("as they were", memcmp(room, saved, length) == 0 && untouched(length));
+    memset(room, 0xa5, sizeof room);
+    holds("in the form asked for", written(hub_settings(BYTES(saved), 1, room, sizeof room), 0, 9, length));
+    holds("as they were", memcmp(room, saved, length) == 0 && untouched(length));
+}
+
 /* Where the limit stands after document 01's trace: one place is taken, and the topic passes again half a second later. */
 static void standing(TraceCall *stands) {
     static const char lines[] = "last=1500000\ntaken=1\nplace=6d2f61\ntext=m/a\nnew=0\nwait=0.000000\n"
@@ -175,6 +198,7 @@ int main(void) {
     standing(hub_standing);
     standing(hub_standing_standard);
     choosing();
+    saving();
     printf("%d passed, %d failed\n", passed, failed);
     return failed != 0;
 }

@@ -4,8 +4,10 @@
 //! zeros behind the pattern of a rule that is added, and a bucket's step with its remainder (oracle/opened/kept.rs);
 //! docs/DIFFERENCES.md has them all. A line that is not understood, or a field that there is not, ends the program; so
 //! does a constructor of monitors that choose rules by another matcher than the original that this is built over. Where
-//! the limit stands is no call of the original: it is found out by trying on copies (tried.rs).
+//! the limit stands is no call of the original: it is found out by trying on copies (tried.rs). Nor are its settings as
+//! text, of which there are a second reader and writer (reload.rs).
 
+use crate::reload::reload;
 use crate::tally::Random;
 use crate::tried::{self, Left, Stand};
 use std::fmt::{Display, Formatter, Result as Written};
@@ -56,6 +58,12 @@ pub enum Answer {
     Inspected(MqttMessage, MqttInspectResult),
     Stands(Stand),
     Left(Left),
+    /// The text, and its last line; or number and line that refused it.
+    Reloaded {
+        text: Vec<u8>,
+        number: u32,
+        line: u64,
+    },
 }
 
 impl Display for Answer {
@@ -69,6 +77,13 @@ impl Display for Answer {
                 write!(out, " kind={kind} rate={rate} from={from}")
             }
             Answer::Left(Left { kind, rate, tokens }) => write!(out, " kind={kind} rate={rate} tokens={tokens}"),
+            Answer::Reloaded { text, number, line } => {
+                match number {
+                    0 => write!(out, " done={line} length={}", text.len())?,
+                    _ => write!(out, " refused={number} line={line}")?,
+                }
+                String::from_utf8_lossy(text).lines().try_for_each(|line| write!(out, "\n   {line}"))
+            }
             Answer::Inspected(_, result) => {
                 write!(out, " allowed={} alerts={}", result.allowed as u8, result.alert_count)?;
                 for (place, alert) in result.alerts[..result.alert_count as usize].iter().enumerate() {
@@ -222,6 +237,7 @@ impl Original {
                 monitor.reset_state();
                 Ok(0)
             }
+            "reload" => return reload(monitor),
             "standing" => return stands(monitor, &args.bytes(0), None),
             "tokens_left" => return stands(monitor, &args.bytes(0), Some(args.number(1))),
             "inspect" | "inspect_claimed" => return inspect(monitor, name == "inspect_claimed", args),
@@ -297,11 +313,11 @@ fn used(bytes: &[u8]) -> String {
     hex(&bytes[..used])
 }
 
-fn action_word(action: TopicAction) -> &'static str {
+pub fn action_word(action: TopicAction) -> &'static str {
     if action == TopicAction::Allow { "allow" } else { "block" }
 }
 
-fn policy_words(policy: QosPolicy) -> String {
+pub fn policy_words(policy: QosPolicy) -> String {
     match policy {
         QosPolicy::Any => "any".into(),
         QosPolicy::MinQoS(level) => format!("min={}", level as u8),

@@ -39,6 +39,12 @@ fn main() {
     trace_rows("hub_trace", hub::trace, hub::trace_length, &traces);
     trace_rows("hub_trace_standard", hub::trace_standard, hub::trace_standard_length, &traces);
     let mut room = vec![0; ENOUGH];
+    let settings: Vec<Vec<u8>> = [1, 32].into_iter().flat_map(|rules| variants(&settings(rules))).collect();
+    row("hub_settings", || {
+        for text in &settings {
+            black_box([0, text.len() / 2, ENOUGH].map(|long| hub::settings(text, 1, &mut room[..long])));
+        }
+    });
     row("hub_standing", || traces.iter().for_each(|text| _ = hub::standing(text, &mut room)));
     row("hub_standing_standard", || traces.iter().for_each(|text| _ = hub::standing_standard(text, &mut room)));
 }
@@ -75,7 +81,16 @@ fn strings() -> Vec<Vec<u8>> {
     all
 }
 
-/// A trace, and what can go wrong with it: an end in many places, a bad byte in many places, too many bytes.
+/// A settings text with so many rules, each value at its longest.
+fn settings(rules: u8) -> Vec<u8> {
+    let mut text = format!("form=1\ndefault=block\nthreshold=16\nwindow=600000000\nrules={rules}\n");
+    for letter in (b'0'..).take(rules.into()) {
+        text += &format!("pattern={}\naction=allow\nqos=only2\nrate=65535\n", format!("{letter:02x}").repeat(64));
+    }
+    text.into_bytes()
+}
+
+/// A text, and what can go wrong with it: an end in many places, a bad byte in many places, too many bytes.
 fn variants(text: &[u8]) -> Vec<Vec<u8>> {
     let mut all = vec![text.to_vec(), [text, &[b'\n'; 65_537]].concat()];
     for place in (0..text.len()).step_by(1 + text.len() / 40) {

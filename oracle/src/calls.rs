@@ -2,6 +2,8 @@
 //! port.
 
 mod answers;
+mod reader;
+mod reload;
 mod tally;
 mod tried;
 

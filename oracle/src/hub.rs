@@ -19,8 +19,18 @@ pub struct HubTrace {
     pub length: usize,
 }
 
+/// How settings were written back: 0, the text's last line and how many bytes were written; or a number, the refused line
+/// and 0.
+#[repr(C)]
+#[derive(Clone, Copy, Debug, PartialEq, Eq)]
+pub struct HubSettings {
+    pub number: u32,
+    pub line: u64,
+    pub length: usize,
+}
+
 mod raw {
-    use super::{HubClientHashes, HubTrace};
+    use super::{HubClientHashes, HubSettings, HubTrace};
 
     #[rustfmt::skip]
     unsafe extern "C" {
@@ -41,6 +51,7 @@ mod raw {
         pub fn hub_trace_length(text: *const u8, text_len: usize) -> HubTrace;
         pub fn hub_trace_standard(text: *const u8, text_len: usize, out: *mut u8, out_len: usize) -> HubTrace;
         pub fn hub_trace_standard_length(text: *const u8, text_len: usize) -> HubTrace;
+        pub fn hub_settings(text: *const u8, text_len: usize, form: u32, out: *mut u8, out_len: usize) -> HubSettings;
         pub fn hub_standing(text: *const u8, text_len: usize, out: *mut u8, out_len: usize) -> HubTrace;
         pub fn hub_standing_standard(text: *const u8, text_len: usize, out: *mut u8, out_len: usize) -> HubTrace;
     }
@@ -148,6 +159,14 @@ pub fn trace_standard(text: &[u8], out: &mut [u8]) -> HubTrace {
 #[inline]
 pub fn trace_standard_length(text: &[u8]) -> HubTrace {
     unsafe { raw::hub_trace_standard_length(text.as_ptr(), text.len()) }
+}
+
+/// The settings of a text, loaded and written back to the front of `out` in a form, 0 for the text's own. Refuses a text with
+/// 9, 21 to 27, 29, 35 and 36 at its line; then a form that is not known with 29, and an `out` that is too short with 28,
+/// each with line 0. Nothing is then written.
+#[inline]
+pub fn settings(text: &[u8], form: u32, out: &mut [u8]) -> HubSettings {
+    unsafe { raw::hub_settings(text.as_ptr(), text.len(), form, out.as_mut_ptr(), out.len()) }
 }
 
 /// Where the limit stands after a trace's messages, into the front of `out`; its number and line are those of `trace`.

@@ -5,7 +5,8 @@ use crate::answers::{Answer, NEW, NEW_DENY_DEFAULT, Original, no_call_hands_out}
 use crate::met::{KINDS, Met, PLACES, STEPS, buckets, choices};
 use crate::tried::{Left, Stand};
 use std::panic::{AssertUnwindSafe, catch_unwind};
-use vs_mqtt_monitor::{opened, state};
+use vs_mqtt_monitor::matcher::STANDARD;
+use vs_mqtt_monitor::{TopicAction, opened, state};
 
 /// Every public call of the monitor. `inspect_claimed` is `inspect` with claimed lengths, `counters` are three calls.
 const CALLS: [&str; 16] = [
@@ -81,6 +82,24 @@ pub const STANDS: [&str; 18] = [
     "left: all but one of a rate",
 ];
 
+/// Reloads of settings, and what was lost by them; none where standard monitors are played.
+pub const RELOADS: &[&str] = if STANDARD {
+    &[]
+} else {
+    &[
+        "reload",
+        "reload refused 10",
+        "reload refused 22",
+        "reload refused 35",
+        "reloaded without rules",
+        "reloaded with 32 rules",
+        "reloaded, to deny by default",
+        "reloaded, buckets lost",
+        "reloaded, clients lost",
+        "reloaded, trackers lost",
+    ]
+};
+
 /// Why a state is refused with 10.
 const REASONS: [&str; 9] = [
     "10: rule count over 32",
@@ -123,7 +142,14 @@ const MORE: [&str; 22] = [
 pub fn all() -> impl Iterator<Item = &'static str> {
     let kinds = KINDS[1..].iter().copied();
     let calls = CALLS.into_iter().chain(TYPES).chain(REFUSALS).chain(REASONS);
-    calls.chain(STANDS).chain(kinds).chain(PLACES).chain(STEPS).chain(MORE).chain(choices())
+    calls
+        .chain(STANDS)
+        .chain(RELOADS.iter().copied())
+        .chain(kinds)
+        .chain(PLACES)
+        .chain(STEPS)
+        .chain(MORE)
+        .chain(choices())
 }
 
 /// A script on its way.
@@ -172,10 +198,26 @@ impl Play<'_> {
             }
             Answer::Refused(number) => {
                 let name = format!("{} refused {number}", words[0]);
-                self.met.count(REFUSALS.iter().find(|known| **known == name).expect(&name), 1);
+                self.met.count(REFUSALS.iter().chain(RELOADS).find(|known| **known == name).expect(&name), 1);
                 if let (10, Some(reason)) = (number, reason) {
                     self.met.count(reason, 1);
                 }
+            }
+            Answer::Reloaded { number: 0, .. } => {
+                let lost = |places: std::ops::Range<usize>| holders[places].iter().any(Option::is_some).into();
+                self.met.count("reload", 1);
+                self.met.count("calls", 1);
+                self.met.count("reloaded without rules", (rules == 0).into());
+                self.met.count("reloaded with 32 rules", (rules == 32).into());
+                let denies = state::settings(monitor).0 == TopicAction::Block;
+                self.met.count("reloaded, to deny by default", denies.into());
+                self.met.count("reloaded, buckets lost", lost(0..32));
+                self.met.count("reloaded, clients lost", lost(32..48));
+                self.met.count("reloaded, trackers lost", lost(48..64));
+            }
+            Answer::Reloaded { number, .. } => {
+                let name = format!("reload refused {number}");
+                self.met.count(RELOADS.iter().find(|known| **known == name).expect(&name), 1);
             }
             Answer::Stands(Stand { kind, rate, from }) => self.met.count(
                 match (kind, from) {

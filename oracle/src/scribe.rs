@@ -3,6 +3,7 @@
 //! the scripts then really met is counted by the comparison, and `MAKERS` names what each maker must have met.
 
 mod asks;
+mod reloads;
 
 use crate::answers::{NEW, NEW_DENY_DEFAULT, hex};
 use crate::make::{BROKEN, LIKE_NOBODY, among, pattern};
@@ -11,6 +12,7 @@ use crate::pairs::{Pairs, reblocked};
 use crate::play::Play;
 use crate::tally::Random;
 use asks::{ask_standing, ask_tokens};
+use reloads::reload;
 use vs_mqtt_monitor::{MqttMonitor, state};
 use vs_types_embedded::fnv1a_hash;
 
@@ -73,6 +75,7 @@ pub const MAKERS: &[Maker] = &[
         &["bucket removed", "bucket replaced", "kind 5", "kind 6", "remove_rate_bucket refused 7"],
     ),
     asks::STANDING,
+    reloads::RELOADED,
 ];
 
 /// One script of a maker.
@@ -356,7 +359,7 @@ fn anew(scribe: &mut Scribe) {
 }
 
 /// Every call that a state may be refused to.
-const CHANGES: [Turn; 15] = [
+const CHANGES: [Turn; 16] = [
     add_rule,
     remove_rule,
     swap_rules,
@@ -372,6 +375,7 @@ const CHANGES: [Turn; 15] = [
     reset,
     ask_standing,
     ask_tokens,
+    reload,
 ];
 
 fn every_call(scribe: &mut Scribe) {

@@ -8,6 +8,8 @@ mod make;
 mod met;
 mod pairs;
 mod play;
+mod reader;
+mod reload;
 mod said;
 mod scribe;
 mod tally;

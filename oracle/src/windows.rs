@@ -4,8 +4,9 @@
 //! is the upper half of demand 3. Of K those removals are counted that the topic felt, after which it had no bucket: so
 //! what is held is less than the request's bound, or that. And a removal takes one bucket, or is refused and takes none.
 //!
-//! A run begins with a constructor, or with a reset of a state in which nothing was set by hand. Up to its first message
-//! any call may come. It ends where a rule is changed, a field is set by hand or the time goes back.
+//! A run begins with a constructor, with a reset of a state in which nothing was set by hand, or with settings that were
+//! reloaded. Up to its first message any call may come. It ends where a rule is changed, a field is set by hand or the
+//! time goes back.
 
 use crate::answers::{NEW, NEW_DENY_DEFAULT, bytes, id_words};
 use crate::said::{self, Look, Said};
@@ -155,6 +156,10 @@ impl<'a> Reader<'a> {
             "reset_state" => {
                 self.end(windows);
                 self.run = if self.by_hand { Run::Over } else { Run::Fresh };
+            }
+            "reload" => {
+                self.end(windows);
+                (self.by_hand, self.run) = (false, Run::Fresh);
             }
             // A field that is set by hand.
             _ => {

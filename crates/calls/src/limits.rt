@@ -1,8 +1,8 @@
 // Where the limit stands for a topic, of up to 256 bytes, so that one can be too long:
 //     standing TOPIC · tokens_left TOPIC AT
+use crate::reload;
 use crate::say::say;
 use crate::say::say_number;
-use crate::settings;
 use cut::args::is;
 use cut::args::number;
 use cut::args::unhex;
@@ -55,5 +55,5 @@ pub fn ask(m: MqttMonitor, name: &[u8], q: &[u8]) -> MqttMonitor {
         say_left(standing::tokens_left(m, upto(&topic, n), number(q, 2)));
         return m;
     }
-    settings::ask(m, name, q)
+    reload::ask(m, name, q)
 }

@@ -1,0 +1,57 @@
+// Settings as text, and back, as after a power cut (request C-13):
+//     reload
+// The answer has the text. The state is then the one that the text loads to; a state that is refused stays, and so does one whose text is.
+use crate::fields;
+use crate::say::say;
+use crate::say::say_number;
+use cut::after;
+use cut::args::is;
+use cut::before;
+use cut::upto;
+use monitor::state::MqttMonitor;
+use settings::load::load_settings;
+use settings::write::write_settings;
+
+// The form that is written.
+const FORM: u32 = 1;
+
+// The lines of a text, each behind some blanks.
+fn say_lines(text: &[u8]) {
+    let mut left = text;
+    while 0 < left.len() {
+        say(b"\n   ");
+        say(before(left, b'\n'));
+        let rest = after(left, b'\n');
+        left = rest;
+    }
+}
+
+// The longest text has 5,532 bytes, and some more where settings are set by hand.
+fn reload(m: MqttMonitor) -> MqttMonitor {
+    let mut room = [0u8; 6144];
+    let written = write_settings(m, FORM, &mut room);
+    if written.number != 0 {
+        say_number(b"refused", written.number as u64);
+        return m;
+    }
+    let text = upto(&room, written.length);
+    let loaded = load_settings(text);
+    if loaded.number != 0 {
+        say_number(b"refused", loaded.number as u64);
+        say_number(b"line", loaded.line);
+        say_lines(text);
+        return m;
+    }
+    say_number(b"done", loaded.line);
+    say_number(b"length", written.length as u64);
+    say_lines(text);
+    loaded.monitor
+}
+
+// It, or any other line.
+pub fn ask(m: MqttMonitor, name: &[u8], q: &[u8]) -> MqttMonitor {
+    if is(name, b"reload") {
+        return reload(m);
+    }
+    fields::ask(m, name, q)
+}

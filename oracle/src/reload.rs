@@ -1,0 +1,47 @@
+//! A reload of the original (request C-13): its settings as text, by the second writer, and the monitor that the second
+//! reader makes of them by the original's own calls (reader.rs).
+
+use crate::answers::{Answer, NEW, NEW_DENY_DEFAULT, Original, action_word, hex, policy_words};
+use crate::reader::{self, POLICIES, Refused, Rule, Settings};
+use vs_mqtt_monitor::{MqttMonitor, state};
+
+/// The monitor is then the one that its text loads to; one whose text is refused stays.
+pub fn reload(monitor: &mut MqttMonitor) -> Answer {
+    let text = reader::text(&settings(monitor));
+    let (number, line) = match reader::read(&text) {
+        Ok((settings, lines)) => {
+            *monitor = made(&settings);
+            (0, lines)
+        }
+        Err(Refused { number, line, .. }) => (number, line),
+    };
+    Answer::Reloaded { text, number, line }
+}
+
+/// What a text says of a monitor that number 10 lets pass.
+fn settings(monitor: &MqttMonitor) -> Settings {
+    let (default, threshold, window, _) = state::settings(monitor);
+    let rule = |rule: state::Rule| {
+        let word = policy_words(rule.policy).replace('=', "");
+        Rule {
+            pattern: rule.pattern[..rule.pattern_len as usize].to_vec(),
+            action: action_word(rule.action),
+            qos: POLICIES.into_iter().find(|known| *known == word).expect("a policy"),
+            rate: rule.rate.into(),
+        }
+    };
+    let rules = (0..monitor.rule_count()).filter_map(|place| state::rule(monitor, place)).map(rule).collect();
+    Settings { default: action_word(default), threshold: threshold.into(), window, rules }
+}
+
+/// A fresh monitor that calls gave these settings.
+fn made(settings: &Settings) -> MqttMonitor {
+    let Settings { default, threshold, window, rules } = settings;
+    let mut fresh = Original::new();
+    fresh.answer(if *default == "allow" { NEW } else { NEW_DENY_DEFAULT });
+    fresh.answer(&format!("set_connect_storm_params {threshold} {window}"));
+    for Rule { pattern, action, qos, rate } in rules {
+        fresh.answer(&format!("add_rule {} {action} {qos} {rate}", hex(pattern)));
+    }
+    fresh.monitor
+}
