@@ -1,5 +1,5 @@
-// hubsettings: a settings text on standard input, what it sets on standard output, in words (request C-13). All of the work is `settings::told::tell_settings`; here are only the two buffers and the way
-// in and out. That what is told is whole is promised by `answer`; what `read` and `write` move is the C library's word.
+// hubsettings: a settings text on standard input, what it sets on standard output, in words (request C-13). All of the work is `settings::told::tell_settings`; here are only the two buffers and the
+// way in and out. That what is told is whole is promised by `answer`; what `read` and `write` move is the C library's word.
 // A program has no exit status of its own: it says on standard error what failed, and nothing where nothing did. `bin/hubsettings` makes a status of that.
 use libc::STDERR_FILENO;
 use libc::STDIN_FILENO;

@@ -46,9 +46,11 @@ loop-again c =
     let turn = put .before .before .before .before in
     let args = turn .before .before .args in
     let n : length (args .t3) ≡ 32 = search needs in
-    let told = put .put-rule-told .ensures in (
+    let told = put .put-rule-told .ensures in
+    let i = turn .loop .i in
+    let inv = turn .loop .inv .1 in (
       omega arith,
-      (rw (rules-more (args .t3) (turn .loop .i) (omega arith)) (wrote-then (turn .loop .inv .1 .0) (told .0)), rules-longer (args .t3) (turn .loop .i) (omega arith) (turn .loop .inv .1 .1) (told .1)),
+      (rw (rules-more (args .t3) i (omega arith)) (wrote-then (inv .0) (told .0)), rules-longer (args .t3) i (omega arith) (inv .1) (told .1)),
     )
 
 same-length : tie.Need-same-length Inv-loop μ-loop
