@@ -1,2 +1,2 @@
 mod GivenLaws
-mod TellLaws
+pub mod TellLaws

@@ -1,10 +1,9 @@
 -- What the reader of a settings text hands back are the settings that the text gives: a held rule says what its lines said, as a pattern that is taken has at most 64 bytes, and there are at most 32.
 -- Assumes nothing.
 use Prim.Native.Nat.{ℕ, _≤_}
-use mathlib.Core.Path.{_≡_, refl, ap, _∙_}
-use mathlib.Core.List.{List, _∷_, map}
-use native.Mathlib.Omega.{arith}
-use borrow.Author.Tests.{eqb-true, eqb-false}
+use mathlib.Core.Path.{_≡_, refl}
+use mathlib.Core.List.{List, map}
+use borrow.Author.Tests.{eqb-true}
 use lib.Dec.{eqb}
 use lib.ListN.{length, take}
 use Rattle.laws.proofs.Cases.{by}

@@ -1,7 +1,7 @@
 -- What is told of a whole text: all of it is written where the lent buffer has room for what is told of any text, and nothing where it has not. Assumes nothing.
 use Prim.Native.Nat.{ℕ, _*_, _≤_, _<_}
 use mathlib.Core.Path.{_≡_, refl, _∙_}
-use mathlib.Core.List.{List, _++_, map}
+use mathlib.Core.List.{List, map}
 use native.Mathlib.Omega.{arith}
 use borrow.Author.Tests.{le-leb, lt-leb}
 use lib.ListN.{length, take, length-append, length-map}
@@ -35,6 +35,16 @@ Tells s d e x = (x ≡ toldEnd (length d) s) × ((e ≡ toldKept d s) × (toldRo
 pub told-nothing : (s d : List ℕ) → length d < 16384 → Tells s d d (record { number = 28; line = 0; length = 0 })
 unfolding toldEnd toldKept
 told-nothing s d h = rw (lt-leb _ _ h) (refl, (refl, λ g. absurd (omega (arith, h, g))))
+
+-- where there is room, how many bytes are told
+as-long : (t : Took Settings) (n : ℕ) → toldAs t n .length ≡ n
+unfolding toldAs
+as-long (took v p l) n = refl
+as-long (stopped k l) n = refl
+
+pub told-long : (s : List ℕ) (room : ℕ) → toldRoom ≤ room → toldEnd room s .length ≡ length (toldText s)
+unfolding toldEnd
+told-long s room h = rw (le-leb _ _ h) (as-long (settingsOf s) (length (toldText s)))
 
 module _ (s d : List ℕ) (h : 16384 ≤ length d) where
   told-all : (t : Took Settings) {e : List ℕ} {p : ℕ} → settingsOf s ≡ t → Wrote d e 0 (toldOf t) p → length (toldOf t) ≤ 16384 → Tells s d e (toldAs t p)
