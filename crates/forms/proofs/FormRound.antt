@@ -1,4 +1,5 @@
--- Each way of building a form keeps the two laws.
+-- Each form of one line keeps its law, and so does each way of putting forms together; so that the law of a form is put together as the form is. At the end the law of a whole text, both ways.
+-- Assumes nothing.
 use Prim.Native.Nat.{ℕ, zero, suc, _+_, _≤_, _<_}
 use mathlib.Core.Path.{_≡_, refl, sym, ap, _∙_}
 use mathlib.Core.Bool.{true}
@@ -19,17 +20,20 @@ use Rattle.laws.proofs.Every.{every-both}
 use Rattle.lines.proofs.HexRound.{unhex-length}
 use Rattle.lines.proofs.value.HexLaws.{hex-kinds, hex-taken}
 use Rattle.forms.specs.Stands.{Stands}
-use Rattle.forms.specs.Form.{Took, took, stopped, onTook, Form, Round, fieldTook, numberForm, wordForm, hexForm, pairForm, mapForm, testForm, textAll, countAll, FitAll, fit-none, fit-more, readAll, manyForm, ended, renumbered, numberedForm, wholeOf}
+use Rattle.forms.specs.Form.{Took, took, stopped, onTook, Form, Round, fieldTook, numberForm, wordForm, hexForm, pairForm, mapForm, testForm}
+use Rattle.forms.specs.Form.{textAll, countAll, FitAll, fit-none, fit-more, readAll, manyForm, ended, renumbered, numberedForm, wholeOf}
 use Rattle.forms.proofs.PlainLaws.{inLine}
 use Rattle.forms.proofs.StandsLaws.{stands-none, stands-then, stands-first, stands-second, stands-whole, stands-all}
 use Rattle.forms.proofs.FieldRound.{number-there, number-back, word-there, word-back, hex-there, hex-bytes, hex-stood}
 
 -- what was taken after another was taken
-on-took : {A B : Type 0} {P : Type 0} (t : Took A) (f : A → ℕ → ℕ → Took B) {v : B} {r l : ℕ} → onTook t f ≡ took v r l → ((a : A) (p m : ℕ) → t ≡ took a p m → f a p m ≡ took v r l → P) → P
+on-took : {A B : Type 0} {P : Type 0} (t : Took A) (f : A → ℕ → ℕ → Took B) {v : B} {r l : ℕ} → onTook t f ≡ took v r l
+    → ((a : A) (p m : ℕ) → t ≡ took a p m → f a p m ≡ took v r l → P) → P
 unfolding onTook
 on-took (took a p m) f e k = k a p m refl e
 on-took (stopped n m) f {v} {r} {l} e k = absurd (let z : _≡_ {A = ℕ} 0 1 = cc in omega arith)
 
+-- what was taken is one thing
 took-same : {A : Type 0} {a v : A} {p r m l : ℕ} → took a p m ≡ took v r l → (a ≡ v) × (p ≡ r) × (m ≡ l)
 took-same e = ((cc), (cc), (cc))
 
@@ -37,6 +41,7 @@ took-same e = ((cc), (cc), (cc))
 took-eq : {A : Type 0} {a v : A} {p r m l : ℕ} → a ≡ v → p ≡ r → m ≡ l → took a p m ≡ took v r l
 took-eq e f g = cc
 
+-- go on after what is known to have been taken
 pub onTook-took : {A B : Type 0} {t : Took A} {a : A} {p m : ℕ} (f : A → ℕ → ℕ → Took B) → t ≡ took a p m → onTook t f ≡ f a p m
 unfolding onTook
 onTook-took f e = rw e
@@ -47,6 +52,8 @@ field-took f a line {v} {r} {l} e =
     by (eqb (f .number) 0)
     (λ t. let q : took a (f .next) (line + 1) ≡ took v r l = rw t at e in (eqb-true _ _ t, (cc), (cc), (cc)))
     (λ t. absurd (let q : stopped (f .number) (line + 1) ≡ took v r l = rw t at e in let z : _≡_ {A = ℕ} 0 1 = cc in omega arith))
+
+-- ONE LINE
 
 pub number-round : (key : List ℕ) (low high : ℕ) → every inLine key ≡ true → Round (numberForm key low high)
 unfolding numberForm
@@ -74,6 +81,7 @@ word-round key ws kp wp d =
 digit-small : (c : ℕ) → isHex c ≡ true → hexValue c < 16
 digit-small c e = hex-kinds c e (λ a b. rw (lt-ltb c 58 (omega arith)) (omega arith)) (λ a b. rw (le-ltb c 58 (omega arith)) (omega arith))
 
+-- so are those of hex
 unhex-small : (l : List ℕ) → every isHex l ≡ true → (i : ℕ) → getD (unhex l) i 0 < 256
 unfolding unhex
 unhex-small [] e i = omega arith
@@ -102,12 +110,16 @@ hex-round key room kp =
           (rw (← q .1, ← q .2) (b .0), rw (← q .1) (omega arith, unhex-small (valueOf s (hexField s at key room)) (t .1)), q .3);
     }
 
+-- WAYS TO PUT FORMS TOGETHER
+
 pub pair-round : {A B : Type 0} (F : Form A) (G : A → Form B) → Round F → ((a : A) → Round (G a)) → Round (pairForm F G)
 unfolding pairForm
 pair-round F G f g =
     record {
       there = λ line {v} h a.
-          rw (onTook-took _ (f .there line (h .0) (stands-first (F .text (v .0)) (G (v .0) .text (v .1)) a)), onTook-took _ (g (v .0) .there (line + F .count (v .0)) (h .1) (stands-second (F .text (v .0)) (G (v .0) .text (v .1)) a))) (took-eq refl refl (omega arith));
+          let x = f .there line (h .0) (stands-first (F .text (v .0)) (G (v .0) .text (v .1)) a) in
+          let y = g (v .0) .there (line + F .count (v .0)) (h .1) (stands-second (F .text (v .0)) (G (v .0) .text (v .1)) a) in
+          rw (onTook-took _ x, onTook-took _ y) (took-eq refl refl (omega arith));
       back = λ s at line {v} {r} {l} e.
           on-took (F .read s at line) _ e (λ a p m ea eb.
           on-took (G a .read s p m) _ eb (λ b q n ec ed.
@@ -150,13 +162,17 @@ test-round test F f =
     }
 
 module _ {A : Type 0} (F : List A → Form A) (f : (acc : List A) → Round (F acc)) where
-  all-there : {s : List ℕ} {at r : ℕ} (line : ℕ) (acc v : List A) → FitAll F acc v → Stands s at (textAll F acc v) r → readAll F (length v) acc s at line ≡ took v r (line + countAll F acc v)
+  all-there : {s : List ℕ} {at r : ℕ} (line : ℕ) (acc v : List A) → FitAll F acc v → Stands s at (textAll F acc v) r
+      → readAll F (length v) acc s at line ≡ took v r (line + countAll F acc v)
   unfolding textAll countAll readAll
   all-there line acc [] h a = took-eq refl (omega (arith, a .next)) (omega arith)
   all-there line acc (x ∷ v) (fit-more hx hv) a =
-      rw (onTook-took _ (f acc .there line hx (stands-first (F acc .text x) (textAll F (acc ++ (x ∷ [])) v) a)), onTook-took _ (all-there (line + F acc .count x) (acc ++ (x ∷ [])) v hv (stands-second (F acc .text x) (textAll F (acc ++ (x ∷ [])) v) a))) (took-eq refl refl (omega arith))
+      let y = f acc .there line hx (stands-first (F acc .text x) (textAll F (acc ++ (x ∷ [])) v) a) in
+      let z = all-there (line + F acc .count x) (acc ++ (x ∷ [])) v hv (stands-second (F acc .text x) (textAll F (acc ++ (x ∷ [])) v) a) in
+      rw (onTook-took _ y, onTook-took _ z) (took-eq refl refl (omega arith))
 
-  all-back : (k : ℕ) (acc : List A) (s : List ℕ) (at line : ℕ) {v : List A} {r l : ℕ} → readAll F k acc s at line ≡ took v r l → Stands s at (textAll F acc v) r × FitAll F acc v × (length v ≡ k) × (l ≡ line + countAll F acc v)
+  all-back : (k : ℕ) (acc : List A) (s : List ℕ) (at line : ℕ) {v : List A} {r l : ℕ} → readAll F k acc s at line ≡ took v r l
+      → Stands s at (textAll F acc v) r × FitAll F acc v × (length v ≡ k) × (l ≡ line + countAll F acc v)
   unfolding textAll countAll readAll
   all-back zero acc s at line e =
       let q = took-same e in
@@ -177,6 +193,7 @@ module _ {A : Type 0} (F : List A → Form A) (f : (acc : List A) → Round (F a
         back = λ s at line e. let b = all-back k [] s at line e in (b .0, (b .2, b .1), b .3);
       }
 
+-- numbers change, values do not
 renumber-took : {A : Type 0} (g : ℕ → ℕ) (t : Took A) {v : A} {r l : ℕ} → renumbered g t ≡ took v r l → t ≡ took v r l
 unfolding renumbered
 renumber-took g (took a p m) e = e
@@ -193,6 +210,8 @@ numbered-round g F f =
       there = λ line h a. renumber-keeps g (f .there line h a);
       back = λ s at line e. f .back s at line (renumber-took g (F .read s at line) e);
     }
+
+-- A WHOLE TEXT
 
 -- after the end of a text nothing stands
 end-none : (s : List ℕ) → textEnd s (length s) ≡ 0

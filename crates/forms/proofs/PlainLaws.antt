@@ -1,4 +1,4 @@
--- Values without LF: where a line ends.
+-- Keys and values have no LF in them, so that a line ends behind its value: decimals, hex, and words of a list that has none. And a line begins with its key. Assumes nothing.
 use Prim.Native.Nat.{ℕ, zero, suc, _+_, _≤_, _<_}
 use mathlib.Core.Path.{_≡_, refl, ap}
 use mathlib.Core.Bool.{Bool, true, false, not, _&&_}
@@ -52,6 +52,7 @@ begins-join (k ∷ key) v = rw (lib-eq k, begins) (begins-join key v)
     lib-eq : (k : ℕ) → eqb k k ≡ true
     lib-eq k = eq-eqb k k refl
 
+-- and what begins with a key is the key and the rest
 pub begins-split : (key l : List ℕ) → begins key l ≡ true → l ≡ key ++ drop (length key) l
 unfolding begins
 begins-split [] l e = refl
@@ -69,22 +70,28 @@ digit-plain c e =
     let g : 48 ≤ c = leb-true _ _ (h .0) in
     rw (ne-eqb c 10 (λ q. omega arith))
 
+-- what is read as a number is digits
 value-digits : (low high : ℕ) (l : List ℕ) (n : ℕ) → decimalOf low high l ≡ Value n → every isDigit l ≡ true
 unfolding decimalOf
 value-digits low high l n e =
     by (noSpareZero l && every isDigit l && leb low (digitsAfter 0 l) && leb (digitsAfter 0 l) high)
-    (λ t. both (noSpareZero l) (every isDigit l) (both (noSpareZero l && every isDigit l) (leb low (digitsAfter 0 l)) (both (noSpareZero l && every isDigit l && leb low (digitsAfter 0 l)) (leb (digitsAfter 0 l) high) t .0) .0) .1)
+    (λ t.
+    let c = both (noSpareZero l && every isDigit l && leb low (digitsAfter 0 l)) (leb (digitsAfter 0 l) high) t in
+    let b = both (noSpareZero l && every isDigit l) (leb low (digitsAfter 0 l)) (c .0) in
+    both (noSpareZero l) (every isDigit l) (b .0) .1)
     (λ t. absurd (let q : Bad ≡ Value n = rw t at e in let z : _≡_ {A = ℕ} 0 1 = cc in omega arith))
 
 pub decimal-plain : (n : ℕ) → every inLine (decimal n) ≡ true
 decimal-plain n = every-weak isDigit inLine digit-plain (decimal n) (value-digits 0 n (decimal n) n (decimal-read 0 n n (omega arith) (omega arith)))
 
+-- a hex digit is none
 hex-in : (c : ℕ) → isHex c ≡ true → inLine c ≡ true
 hex-in c e = hex-kinds c e (λ a b. rw (ne-eqb c 10 (λ q. omega arith))) (λ a b. rw (ne-eqb c 10 (λ q. omega arith)))
 
 pub hex-plain : (s : List ℕ) → ((i : ℕ) → getD s i 0 < 256) → every inLine (hexText s) ≡ true
 hex-plain s h = every-weak isHex inLine hex-in (hexText s) (hex-taken (length s) (hexText s) (hex-read (length s) s h (omega arith)) .1)
 
+-- a word of a list passes a test that all bytes of the list pass
 first-plain : (p : ℕ → Bool) (l : List ℕ) → every p l ≡ true → every p (firstWord l) ≡ true
 unfolding firstWord every
 first-plain p [] e = refl

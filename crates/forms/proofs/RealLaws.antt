@@ -9,21 +9,26 @@ use borrow.Author.Tests.{eqb-false}
 use Rattle.lines.specs.Field.{numberField, wordField, hexField, textEnd}
 use Rattle.lines.specs.declared.read.Field.{Field}
 use Rattle.laws.proofs.Cases.{by}
-use Rattle.forms.specs.Form.{Took, took, stopped, onTook, Form, fieldTook, numberForm, wordForm, hexForm, pairForm, mapForm, testForm, numberedForm, renumbered, readAll, manyForm, ended, wholeOf}
+use Rattle.forms.specs.Form.{Took, took, stopped, onTook, Form, fieldTook, ended, wholeOf}
+use Rattle.forms.specs.Form.{numberForm, wordForm, hexForm, pairForm, mapForm, testForm, numberedForm, renumbered, readAll, manyForm}
 
 -- what is stopped is stopped by a number above 0
 abbrev pub RealTook : {A : Type 0} → Took A → Type 0
 RealTook t = (n l : ℕ) → t ≡ stopped n l → n ≡ 0 → ⊥
 
+-- so of a form, wherever it is read
 abbrev pub Real : {A : Type 0} → Form A → Type 0
 Real F = (s : List ℕ) (at line : ℕ) → RealTook (F .read s at line)
 
+-- what is taken is not stopped
 took-real : {A : Type 0} (a : A) (p l : ℕ) → RealTook (took a p l)
 took-real a p l n m e z = let q : _≡_ {A = ℕ} 0 1 = cc in omega arith
 
+-- what is stopped has its number
 stop-real : {A : Type 0} (k l : ℕ) → (k ≡ 0 → ⊥) → RealTook {A = A} (stopped k l)
 stop-real k l h n m e z = h (let q : k ≡ n = cc in q ∙ z)
 
+-- what goes on after something
 on-real : {A B : Type 0} (t : Took A) (f : A → ℕ → ℕ → Took B) → RealTook t → ((a : A) (p l : ℕ) → t ≡ took a p l → RealTook (f a p l)) → RealTook (onTook t f)
 unfolding onTook
 on-real (took a p l) f h g = g a p l refl
@@ -33,6 +38,7 @@ field-real : {A : Type 0} (f : Field) (a : A) (line : ℕ) → RealTook (fieldTo
 field-real f a line =
     by (eqb (f .number) 0) (λ t. rw t (took-real a (f .next) (line + 1))) (λ t. rw t (stop-real (f .number) (line + 1) (eqb-false _ _ t)))
 
+-- the forms of single lines, and the ways to put forms together
 pub number-real : (key : List ℕ) (low high : ℕ) → Real (numberForm key low high)
 unfolding numberForm
 number-real key low high s at line = field-real (numberField s at key low high) _ line
@@ -72,7 +78,8 @@ all-real : {A : Type 0} (F : List A → Form A) → ((acc : List A) → Real (F 
 unfolding readAll
 all-real F f zero acc s at line = took-real [] at line
 all-real F f (suc k) acc s at line =
-    on-real (F acc .read s at line) _ (f acc s at line) (λ a p l e. on-real (readAll F k (acc ++ (a ∷ [])) s p l) _ (all-real F f k (acc ++ (a ∷ [])) s p l) (λ more q m e. took-real (a ∷ more) q m))
+    on-real (F acc .read s at line) _ (f acc s at line)
+    (λ a p l e. on-real (readAll F k (acc ++ (a ∷ [])) s p l) _ (all-real F f k (acc ++ (a ∷ [])) s p l) (λ more q m e. took-real (a ∷ more) q m))
 
 pub many-real : {A : Type 0} (F : List A → Form A) → ((acc : List A) → Real (F acc)) → (k : ℕ) → Real (manyForm F k)
 unfolding manyForm

@@ -1,27 +1,20 @@
 -- A buffer of `enough` bytes holds the whole answer to any text, and where the limit stands after it: neither call ends in 28 there, and the bytes that each counts are all of its text. It stands on
 -- the bounds of `trace` on both texts. So they are what is answered to a text that was read to its end. Assumes nothing.
-use Prim.Native.Nat.{ℕ, _+_, _≤_}
-use mathlib.Core.Path.{_≡_, sym, ap, _∙_}
+use Prim.Native.Nat.{ℕ, _≤_}
+use mathlib.Core.Path.{_≡_}
 use mathlib.Core.List.{List}
 use native.Mathlib.Omega.{arith}
 use borrow.Author.Tests.{le-leb}
-use lib.ListN.{length, take, drop}
-use lib.Seq.{sets, sets-eq, length-sets, take-append-seam, length-take-le}
+use lib.ListN.{length, take}
 use Rattle.topics.specs.declared.matching.Matching.{Matching}
 use Rattle.trace.specs.Standing.{standingText, standingEnd, standingKept}
 use Rattle.trace.specs.Trace.{traceText, traceEnd, traceKept, enough}
 use Rattle.trace.proofs.Bound.{trace-enough}
 use Rattle.io.specs.Counts.{Counts}
-use Rattle.io.proofs.Counting.{counts}
 use Rattle.hubtrace.specs.Answered.{answerTo, standingAfter}
-use Rattle.hubtrace.specs.Turns.{DoneWithin}
-use Rattle.hubtrace.specs.declared.turn.Done.{Done}
-use Rattle.hubtrace.specs.declared.turn.Done.the-variants.{Bytes}
-
--- a text that was stored at the beginning of a list that has room for it: its bytes are counted, and they are the list's first
-stored : (d t : List ℕ) → length t ≤ length d → Counts (length t) (sets d 0 t) × (take (length t) (sets d 0 t) ≡ t)
-stored d t h =
-    (counts (length t) (sets d 0 t) (omega (arith, h, length-sets d 0 t)), ap (take (length t)) (sets-eq t d 0 (omega (arith, h))) ∙ take-append-seam t (drop (0 + length t) d))
+use Rattle.streams.proofs.StreamLaws.{stored}
+use Rattle.streams.specs.declared.turn.Done.{Done}
+use Rattle.streams.specs.declared.turn.Done.the-variants.{Bytes}
 
 module _ (matching : Matching) (d s : List ℕ) (h : enough ≡ length d) where
   whole : Counts (traceEnd matching (length d) s .length) (traceKept matching d s) × (take (traceEnd matching (length d) s .length) (traceKept matching d s) ≡ traceText matching s)
@@ -37,10 +30,6 @@ module _ (matching : Matching) (d s : List ℕ) (h : enough ≡ length d) where
   whole-standing few =
       let fits : length (standingText matching s) ≤ length d = omega (arith, few, h) in
       rw (le-leb _ _ fits) (stored d (standingText matching s) fits)
-
--- what was read is a part of the buffer that it was read into
-pub read-part : (r : Done) (k : ℕ) (s : List ℕ) → r ≡ Bytes k → DoneWithin r (length s) → k ≡ length (take k s)
-read-part r k s e w = let h : k ≤ length s = rw e at w in sym (length-take-le k s h)
 
 module _ (matching : Matching) (d s : List ℕ) (r : Done) (k : ℕ) (h : enough ≡ length d) (e : r ≡ Bytes k) where
   pub answered-whole : Counts (traceEnd matching (length d) (take k s) .length) (traceKept matching d (take k s))

@@ -5,8 +5,8 @@ use lib.ListN.{take}
 use Rattle.topics.specs.declared.matching.Matching.{Matching}
 use Rattle.trace.specs.Standing.{standingText}
 use Rattle.trace.specs.Trace.{traceText}
-use Rattle.hubtrace.specs.declared.turn.Done.{Done}
-use Rattle.hubtrace.specs.declared.turn.Done.the-variants.{Bytes, Failed}
+use Rattle.streams.specs.declared.turn.Done.{Done}
+use Rattle.streams.specs.declared.turn.Done.the-variants.{Bytes, Failed}
 
 unfoldable pub answerTo : Matching → Done → List ℕ → List ℕ
 answerTo matching (Bytes n) s = traceText matching (take n s)

@@ -3,24 +3,23 @@
 // `write` move, and the words behind the program's name, are the C library's word. With `--match=standard` the rules are matched as MQTT 3.1.1 section 4.7 has it, else as the Rust does.
 // A program has no exit status of its own: it says on standard error what failed, and nothing where nothing did. `bin/hubtrace` makes a status of that.
 mod asked;
-mod input;
-mod output;
-mod turn;
 
 use asked::Asked;
 use libc::STDERR_FILENO;
 use libc::STDIN_FILENO;
 use libc::STDOUT_FILENO;
+use streams::input;
+use streams::output;
+use streams::turn::Done;
 use topics::matching::Matching;
 use trace::run;
 use trace::standing;
-use turn::Done;
 ghost use mathlib.Core.Path.{_≡_};
 ghost use lib.ListN.{length, take};
 ghost use Rattle.trace.specs.Trace.{enough};
 ghost use Rattle.io.specs.Counts.{Counts};
 ghost use Rattle.hubtrace.specs.Answered.{answerTo, standingAfter};
-ghost use Rattle.hubtrace.specs.Turns.{DoneWithin};
+ghost use Rattle.streams.specs.Turns.{DoneWithin};
 
 // Room for the longest trace, 65,536 bytes, and for one byte more, by which a longer one is known (27).
 fn text_buffer() -> [u8; 65537]

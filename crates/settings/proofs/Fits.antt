@@ -124,7 +124,13 @@ module _ (m : MqttMonitor) (s : Sound m) where
   unfolding settingsForm mapForm settingsLines pairForm headLines bodyIn numberForm manyForm
   settings-fit ranged form h =
       let n : length texts ≤ 32 = rw (length-map, held-long) count-le in (
-        ((form-fits form h, (action-fits (bytes "default=") (m .«default_action»), ((s .threshold-low, s .threshold-high), ((s .window-low, s .window-high), (omega arith, n))))), (refl, rules-fit ranged)),
+        (
+          (
+            form-fits form h,
+            (action-fits (bytes "default=") (m .«default_action»), ((s .threshold-low, s .threshold-high), ((s .window-low, s .window-high), (omega arith, n)))),
+          ),
+          (refl, rules-fit ranged),
+        ),
         refl,
       )
 

@@ -164,7 +164,9 @@ unfolding ruleForm testForm mapForm ruleLines pairForm hexForm numberForm
 held-ranged before a f =
     let n = accepted-length (a .pattern) (rule-says before a f .0) .1 in
     record {
-      pattern-bytes = join-small (take 64 (a .pattern)) (replicate (64 - length (a .pattern)) 0) (λ i. rw (take-all 64 (a .pattern) n) (f .0 .0 .0 .1 i)) (zeros 256 (64 - length (a .pattern)) (omega arith));
+      pattern-bytes =
+          join-small (take 64 (a .pattern)) (replicate (64 - length (a .pattern)) 0)
+          (λ i. rw (take-all 64 (a .pattern) n) (f .0 .0 .0 .1 i)) (zeros 256 (64 - length (a .pattern)) (omega arith));
       pattern-len = omega (arith, n);
       rate = let r : a .rate ≤ 65535 = f .0 .0 .1 .1 .1 .1 in omega arith;
     }

@@ -4,3 +4,4 @@ pub mod Kept
 pub mod Loaded
 pub mod OneToOne
 pub mod SettingsText
+pub mod Told

@@ -1,5 +1,5 @@
--- What is claimed of settings and their text (request C-13). Both laws are over whole texts. The proofs are in proofs/OneToOne.antt. How a monitor matches is not yet one of its settings (request C-18):
--- what is written of one that matches by the standard loads to one that matches as the Rust does.
+-- What is claimed of settings and their text (request C-13). Both laws are over whole texts. The proofs are in proofs/OneToOne.antt. How a monitor matches is not yet one of its settings (request
+-- C-18): what is written of one that matches by the standard loads to one that matches as the Rust does.
 -- Assumes nothing.
 use mathlib.Core.Bool.{true}
 use mathlib.Core.List.{List}
@@ -27,7 +27,8 @@ pub record LoadsTo (s : List ℕ) (m : MqttMonitor) : Type 0 where
   pub same : SameSettings (loadedOf (settingsOf s) .monitor) m
 
 pub record OneToOne : Type 0 where
-  -- what is written of any state that calls handed out, in any form that is known, loads to a monitor with the same settings; its numbers are within their types, as those of every value of the code are
+  -- what is written of any state that calls handed out, in any form that is known, loads to a monitor with the same settings; its numbers are within their types, as those of every value of the
+  -- code are
   pub written-loads : (form : ℕ) (m : MqttMonitor) → isForm form ≡ true → Reached m → Ranged m → LoadsTo (settingsText form m) m
   -- any accepted text is written back byte for byte, in its own form, from the monitor that it loads to
   pub loaded-written : (s : List ℕ) {v : Settings} {line : ℕ} → Accepted s v line → settingsText (v .form) (monitorOf v) ≡ s

@@ -5,4 +5,6 @@ mod head;
 pub mod load;
 pub mod read;
 mod rules;
+pub mod told;
+mod told_lines;
 pub mod write;

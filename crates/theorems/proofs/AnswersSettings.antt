@@ -11,6 +11,8 @@ use Rattle.settings.proofs.write.write_settings as write-write-settings
 use Rattle.settings.proofs.write.write_settings.Reads as write-write-settings-reads
 use Rattle.settings.proofs.convert.convert_settings as convert-convert-settings
 use Rattle.settings.proofs.convert.convert_settings.Reads as convert-convert-settings-reads
+use Rattle.settings.proofs.told.tell_settings as told-tell-settings
+use Rattle.settings.proofs.told.tell_settings.Reads as told-tell-settings-reads
 use Rattle.theorems.specs.One.{Any, One, OneLeft}
 
 pub one-read-read-settings : One read-read-settings.ended read-read-settings-reads.Post
@@ -42,3 +44,9 @@ one-convert-convert-settings κs a x y e f p q = (p .0 ∙ sym (q .0), p .1 ∙ 
 
 pub any-convert-convert-settings : Any convert-convert-settings.ended convert-convert-settings-reads.Asked
 any-convert-convert-settings κs a = tt
+
+pub one-told-tell-settings : OneLeft told-tell-settings.ended told-tell-settings-reads.Post (λ κs e. now (e .1 .0))
+one-told-tell-settings κs a x y e f p q = (p .0 ∙ sym (q .0), p .1 .0 ∙ sym (q .1 .0))
+
+pub any-told-tell-settings : Any told-tell-settings.ended told-tell-settings-reads.Asked
+any-told-tell-settings κs a = tt

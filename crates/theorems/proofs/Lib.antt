@@ -6,7 +6,7 @@ mod AnswersHub
 mod AnswersLines
 mod AnswersLoops
 mod AnswersMonitor
-mod AnswersRules
+mod AnswersRules_text
 mod AnswersRuns
 mod AnswersSettings
 mod AnswersSlices

@@ -1,2 +1,1 @@
 pub mod TextBounds
-mod TextLaws

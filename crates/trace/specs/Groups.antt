@@ -1,5 +1,5 @@
--- Document 01, "The trace": the lines of a trace in their fixed order, group by group; a rule's are in `rules_text`. Each line is one field of `lines`, which decides 26, 21 and the value's own number; a group
--- stops at its first refused line. `line` says which line of its group that is, the first being 0; of a group that was read it is the last.
+-- Document 01, "The trace": the lines of a trace in their fixed order, group by group; a rule's are in `rules_text`. Each line is one field of `lines`, which decides 26, 21 and the value's own
+-- number; a group stops at its first refused line. `line` says which line of its group that is, the first being 0; of a group that was read it is the last.
 -- Assumes nothing.
 use mathlib.Core.Bool.{true, cond}
 use mathlib.Core.Path.{_≡_}

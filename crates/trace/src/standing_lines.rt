@@ -6,30 +6,14 @@ use lines::put::put_number_line;
 use lines::put::put_seconds_line;
 use monitor::standing::Left;
 use monitor::standing::Outlook;
+use rules_text::shown::put_shown;
 use tables::standing::Opening;
-use topics::shown::is_readable;
-use topics::shown::shown_byte;
 ghost use mathlib.Core.Path.{_≡_};
 ghost use Prim.Native.Nat.{_-_, _≤_};
 ghost use lib.ListN.{length};
 ghost use Rattle.lines.specs.Wrote.{Wrote};
-ghost use Rattle.topics.specs.Shown.{shown};
 ghost use Rattle.tables.specs.declared.standing.Opening.the-variants.{Never, From};
 ghost use Rattle.trace.specs.Standing.{nameText, openingText, tokensOf, topicText};
-
-// A topic as a person reads it.
-fn put_shown(out: &mut [u8], at: usize, topic: &[u8]) -> usize
-    ensures { λ r. ⌜ Wrote (now (out .entry)) (now (out .exit)) at (shown (now (topic .entry))) r ⌝ }
-{
-    let whole = is_readable(topic);
-    let mut p = at;
-    let mut i = 0;
-    while i < topic.len() {
-        p = put_byte(out, p, shown_byte(whole, topic[i]));
-        i += 1;
-    }
-    p
-}
 
 // A name's two lines: in hex after its key, and as a person reads it.
 pub(crate) fn put_name(out: &mut [u8], at: usize, key: &[u8], topic: &[u8]) -> usize

@@ -1,7 +1,8 @@
 -- `answer` meets its contract: `run_trace_by` does, and a buffer of `enough` bytes holds all of the text. A failed read leaves no text to answer. Assumes nothing.
 use borrow.Author.Needs.{needs}
 use Rattle.hubtrace.specs.Answered.{answerTo}
-use Rattle.hubtrace.proofs.Whole.{read-part, answered-whole}
+use Rattle.streams.proofs.StreamLaws.{read-part}
+use Rattle.hubtrace.proofs.Whole.{answered-whole}
 use Rattle.hubtrace.proofs.answer.Statement.{statement}
 use Rattle.hubtrace.proofs.answer.Tie as tie
 

@@ -1,7 +1,8 @@
 -- `stand` meets its contract: `write_standing` does, and a buffer of `enough` bytes holds all of the lines. A failed read leaves no text to answer. Assumes nothing.
 use borrow.Author.Needs.{needs}
 use Rattle.hubtrace.specs.Answered.{standingAfter}
-use Rattle.hubtrace.proofs.Whole.{read-part, stands-whole}
+use Rattle.streams.proofs.StreamLaws.{read-part}
+use Rattle.hubtrace.proofs.Whole.{stands-whole}
 use Rattle.hubtrace.proofs.stand.Statement.{statement}
 use Rattle.hubtrace.proofs.stand.Tie as tie
 

@@ -1,0 +1,2 @@
+mod GivenLaws
+pub mod TellLaws

@@ -1,0 +1,2 @@
+pub mod ToldBounds
+mod ToldLaws

@@ -1,0 +1,73 @@
+// What a settings text sets, told to a person: what the program `hubsettings` prints.
+use crate::read::SettingsRead;
+use crate::read::read_settings;
+use crate::told_lines::put_closing;
+use crate::told_lines::put_head_told;
+use crate::told_lines::put_rules_told;
+ghost use mathlib.Core.Path.{_≡_};
+ghost use Prim.Native.Nat.{_≤_};
+ghost use lib.ListN.{length};
+ghost use Rattle.lines.specs.Wrote.{Wrote};
+ghost use Rattle.settings.specs.Told.{settingsTold, settingsGiven, toldText, toldRoom, toldEnd, toldKept};
+
+// Room for what is told of any text.
+const ROOM: usize = 16384;
+
+// How the text ended, 0 or the number that refuses it, its last line or the refused one, and how many bytes are told. 28, and nothing is told, where the lent buffer has less than 16,384 bytes.
+pub struct SettingsTold {
+    pub number: u32,
+    pub line: u64,
+    pub length: usize,
+}
+
+// The settings of a text that was read.
+fn put_settings(out: &mut [u8], at: usize, found: SettingsRead) -> usize
+    requires { ⌜ found .«rule_count» ≤ 32 ⌝ }
+    ensures text { λ r. ⌜ Wrote (now (out .entry)) (now (out .exit)) at (settingsTold (settingsGiven found)) r ⌝ }
+    ensures short { λ _. ⌜ length (settingsTold (settingsGiven found)) ≤ 10580 ⌝ }
+{
+    let default_action = found.default_action;
+    let rules = found.rules;
+    let after_head = put_head_told(
+        out,
+        at,
+        found.form,
+        default_action,
+        found.threshold,
+        found.window,
+        found.rule_count,
+    );
+    put_rules_told(out, after_head, rules, found.rule_count as usize)
+}
+
+// What is told, at the beginning of a lent buffer, whose other bytes stay.
+pub fn tell_settings(text: &[u8], out: &mut [u8]) -> SettingsTold
+    ensures answer { λ r. ⌜ r ≡ toldEnd (length (now (out .entry))) (now (text .entry)) ⌝ }
+    ensures buffer { λ _. ⌜ now (out .exit) ≡ toldKept (now (out .entry)) (now (text .entry)) ⌝ }
+    ensures enough { λ _. ⌜ (toldRoom ≤ length (now (out .entry)) → length (toldText (now (text .entry))) ≤ toldRoom) ⌝ }
+{
+    if out.len() < ROOM {
+        return SettingsTold {
+            number: 28,
+            line: 0,
+            length: 0,
+        };
+    }
+    let found = read_settings(text);
+    let number = found.number;
+    let line = found.line;
+    let after_closing = put_closing(out, 0, number, line);
+    if number != 0 {
+        return SettingsTold {
+            number,
+            line,
+            length: after_closing,
+        };
+    }
+    let end = put_settings(out, after_closing, found);
+    SettingsTold {
+        number,
+        line,
+        length: end,
+    }
+}
