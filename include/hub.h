@@ -16,9 +16,9 @@
  * any thread. A bool is 0 or 1.
  *
  * Stack, in bytes below the caller, by measurement (rattle-kit-5b, x86-64; `bin/measure stack` measures again): those of
- * the standing reach 82,392, those of traces 30,258, every other call at most 256, less not being told apart. Whole, cut
- * and damaged traces were tried; by the disassembly no function of libhub.a calls itself, no frame grows with its input,
- * and the frames add up to no more. libdesk.a was measured alone. */
+ * the standing reach 82,392, hub_settings 39,346, those of traces 31,170, every other call at most 256, less not being
+ * told apart. Whole, cut and damaged texts were tried; by the disassembly no function of libhub.a calls itself, no frame
+ * grows with its input, and the frames add up to no more. libdesk.a was measured alone. */
 #ifndef HUB_H
 #define HUB_H
 
@@ -40,6 +40,9 @@ _Static_assert(sizeof(size_t) == 8, "libhub.a is for x86-64: a length has 64 bit
  * (proved). So does one of 12 bytes for each byte of the text, if that is at least 109 (proved too). Either spares them
  * the pass that counts, which costs 0.7 to 1.0 times as much again (docs/MEASURED.md). */
 #define HUB_TRACE_ENOUGH 786432
+
+/* No settings text that loads is longer, so an `out` of so many bytes holds what hub_settings writes (proved). */
+#define HUB_SETTINGS_LONGEST 5532
 
 /* The two hashes that tell clients apart. */
 struct HubClientHashes {
