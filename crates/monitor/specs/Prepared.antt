@@ -1,6 +1,6 @@
 -- Fresh monitors (demand 3: a fresh monitor with rules): any constructor, or a reset of any state that calls handed out; then any calls but inspections, in any order
--- and with any arguments, refused or not. However a hub gets its rules into place, it is one of these before its first message. No bucket is live in them
--- (proofs/Prepared.antt).
+-- and with any arguments, refused or not. However a hub gets its rules into place, it is one of these before its first message; what a settings text loads to is
+-- one, too (`settings`' specs/OneToOne.antt). No bucket is live in them (proofs/Prepared.antt).
 -- Assumes nothing.
 use mathlib.Core.List.{List}
 use Prim.Native.Nat.{ℕ}

@@ -1,5 +1,6 @@
 -- The states that calls hand out (document 01, "Numbers handed back": "one reached from a constructor or a load by calls alone"): a constructor, with either choice of the
--- matcher, then any calls, in any order and with any arguments, refused or not. An inspection takes the matcher that its state chose.
+-- matcher, then any calls, in any order and with any arguments, refused or not. An inspection takes the matcher that its state chose. A load
+-- of settings hands out one of these (`settings`' specs/OneToOne.antt).
 -- Assumes nothing.
 use mathlib.Core.List.{List}
 use Prim.Native.Nat.{ℕ, _<_}
