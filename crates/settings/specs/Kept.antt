@@ -1,11 +1,11 @@
--- What the readers hand back of a settings text that was read, or of one that was refused: number and line, and nothing else.
+-- What the readers hand back of a settings text that was read, or of one that was refused: number and line, and nothing else of it.
 -- Assumes nothing.
 use mathlib.Core.List.{List}
 use Prim.Native.Nat.{ℕ}
 use lib.ListN.{length, replicate}
 use Rattle.forms.specs.Form.{Took, took, stopped}
 use Rattle.tables.specs.Rules.{emptyRule}
-use Rattle.tables.specs.declared.rules.TopicAction.the-variants.{Allow}
+use Rattle.tables.specs.declared.rules.TopicAction.the-variants.{Allow, Block}
 use Rattle.rules_text.specs.RuleText.{RuleText}
 use Rattle.settings.specs.Loaded.{tableOf}
 use Rattle.settings.specs.SettingsText.{Settings, Head, headLines, settingsOf}
@@ -37,16 +37,16 @@ unfoldable pub rulesRead : Took (List RuleText) → RulesLines
 rulesRead (took rs p l) = record { number = 0; line = l; next = p; «rule_count» = length rs; rules = tableOf rs }
 rulesRead (stopped n l) = rulesStopped n l
 
--- the whole; the first rule's lines begin at `rules_from`
+-- the whole; the first rule's lines begin at `rules_from`. Where a number refuses the text the settings are those of a fresh monitor that denies all
 abbrev pub notRead : ℕ → ℕ → SettingsRead
 notRead number line =
     record {
       number = number;
       line = line;
       form = 0;
-      «default_action» = Allow;
-      threshold = 0;
-      window = 0;
+      «default_action» = Block;
+      threshold = 5;
+      window = 60000000;
       «rules_from» = 0;
       «rule_count» = 0;
       rules = replicate 32 emptyRule;

@@ -2,7 +2,6 @@
 use crate::read::read_settings;
 use monitor::calls::fresh;
 use monitor::state::MqttMonitor;
-use tables::rules::TopicAction;
 use topics::matching::Matching;
 ghost use mathlib.Core.Path.{_≡_};
 ghost use Rattle.settings.specs.Loaded.{loadedOf};
@@ -16,19 +15,12 @@ pub struct LoadedSettings {
     pub monitor: MqttMonitor,
 }
 
-// No monitor is taken: whoever has one keeps it until this one is there. It matches as the Rust does, since a text does not say how.
+// No monitor is taken: whoever has one keeps it until this one is there. It matches as the Rust does, since a text does not say how. What was read of a refused text is what a fresh monitor has that
+// denies all, so that there is one way here and one monitor on the stack.
 pub fn load_settings(text: &[u8]) -> LoadedSettings
     ensures { λ r. ⌜ r ≡ loadedOf (settingsOf (now (text .entry))) ⌝ }
 {
     let found = read_settings(text);
-    if found.number != 0 {
-        return LoadedSettings {
-            number: found.number,
-            line: found.line,
-            form: 0,
-            monitor: fresh(Matching::Port, TopicAction::Block),
-        };
-    }
     let default_action = found.default_action;
     let rules = found.rules;
     let mut m = fresh(Matching::Port, default_action);
@@ -37,7 +29,7 @@ pub fn load_settings(text: &[u8]) -> LoadedSettings
     m.connect_storm_threshold = found.threshold;
     m.connect_storm_window_us = found.window;
     LoadedSettings {
-        number: 0,
+        number: found.number,
         line: found.line,
         form: found.form,
         monitor: m,
