@@ -12,7 +12,8 @@ ghost use Rattle.settings.specs.Kept.{notRead, readOf};
 // How long a text may be.
 const TEXT_MAX: usize = 65536;
 
-// What a text gave. Refused: the number and the line, and nothing else of it: the settings are those of a fresh monitor that denies all. Else the settings, the last line, and `rules_from`, where the first rule's lines begin.
+// What a text gave. Refused: the number and the line, and nothing else of it: the settings are those of a fresh monitor that denies all. Else the settings, the last line, and `rules_from`, where the
+// first rule's lines begin.
 pub struct SettingsRead {
     pub number: u32,
     pub line: u64,
