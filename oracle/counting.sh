@@ -11,15 +11,16 @@ original() {
     touch "$room/built"
 }
 
-# host [--lto] NAME: builds a program of oracle/src over the original and the archives of hub and desk, which are proved once a run.
+# host [--lto] NAME: builds a program of oracle/src over the original and the archives of hub, desk and boot, which are proved once a run.
 host() {
     original
     if [ -z "${HUB_ARCHIVE-}" ]; then
         rt staticlib hub >&2
         rt staticlib desk >&2
+        rt staticlib boot >&2
         HUB_ARCHIVE=$root/target/staticlib
     fi
-    oracle/host "$@" "$HUB_ARCHIVE" hub desk
+    oracle/host "$@" "$HUB_ARCHIVE" hub desk boot
 }
 
 # The traces that we measure with, in $room/traces.

@@ -2,5 +2,4 @@
 // Each function is one call of a lower crate and promises what that call promises. A slice passes as a pointer and a length.
 pub mod hashing;
 pub mod matching;
-pub mod saving;
 pub mod tracing;

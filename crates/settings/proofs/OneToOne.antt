@@ -21,6 +21,7 @@ use Rattle.monitor.specs.Prepared.{Prepared, made, rule, storm}
 use Rattle.monitor.specs.Ranged.{RangedRule, Ranged}
 use Rattle.monitor.specs.Reached.{Reached, constructed, rule-added, storm-set}
 use Rattle.monitor.specs.Sound.{Sound}
+use Rattle.monitor.specs.State.{wellFormed}
 use Rattle.monitor.specs.declared.state.MqttMonitor.{MqttMonitor}
 use Rattle.monitor.proofs.Ranged.{alone, zeros, free-rule, no-rule, fresh-ranged}
 use Rattle.monitor.proofs.Reached.{reached-sound}
@@ -98,6 +99,21 @@ written-loads form m k r g =
     let t = a-text (settingsIn form m) (settings-fit m s g form k) in
     record { number = rw (t, loadedOf); same = rw (t, loadedOf) (settings-same m s form) }
 
+-- a well-formed state is written where there is room; so one that calls handed out is, in as many bytes as any text has
+room-enough : (form : ℕ) (m : MqttMonitor) (n : ℕ) → wellFormed m ≡ true → isForm form ≡ true → length (settingsText form m) ≤ n
+    → writtenOf form m n ≡ record { number = 0; length = length (settingsText form m) }
+unfolding writtenOf fitted lengthOf textRefusal
+room-enough form m n f k h = rw (f, k, le-leb _ _ h)
+
+is-written : (form : ℕ) (m : MqttMonitor) (d : List ℕ) → isForm form ≡ true → Reached m → Ranged m → 5532 ≤ length d
+    → (writtenOf form m (length d) ≡ record { number = 0; length = length (settingsText form m) }) × (textKept form m d ≡ sets d 0 (settingsText form m))
+unfolding settingsText textKept
+is-written form m d k r g h =
+    let s = reached-sound r in
+    let n = settings-short (settingsIn form m) (settings-fit m s g form k) in
+    let w = room-enough form m (length d) (s .formed) k (omega (arith, n, h)) in
+    (w, rw w)
+
 -- the settings of a monitor that has settings that fit are they
 rules-back : (rs : List RuleText) → Brief rs → map ruleIn (map ruleHeld rs) ≡ rs
 rules-back rs brief-none = refl
@@ -139,13 +155,10 @@ module _ (s : List ℕ) {v : Settings} {l : ℕ} (e : Accepted s v l) where
   form-known = let f = fits .0 .0 .0 in eq-eqb (v .form) 1 (omega (arith, f .0, f .1))
 
   -- an accepted text is handed back
-  measured : lengthOf (v .form) (monitorOf v) ≡ record { number = 0; length = length s }
-  unfolding lengthOf textRefusal
-  measured = rw (sound .formed, form-known, loaded-written s e)
-
   written : (n : ℕ) → length s ≤ n → writtenOf (v .form) (monitorOf v) n ≡ record { number = 0; length = length s }
-  unfolding writtenOf fitted
-  written n h = rw (measured, le-leb (length s) n h)
+  written n h =
+      let t = loaded-written s e in
+      rw t at (room-enough (v .form) (monitorOf v) n (sound .formed) form-known (rw t h))
 
   given-back : (d : List ℕ) → length s ≤ length d → (convertEnd 0 (length d) s ≡ record { number = 0; line = l; length = length s }) × (convertKept 0 d s ≡ sets d 0 s)
   unfolding convertEnd convertedEnd endAt convertKept convertedKept textKept
@@ -203,6 +216,7 @@ pub one-to-one : OneToOne
 one-to-one =
     record {
       written-loads = written-loads;
+      is-written = is-written;
       loaded-written = loaded-written;
       one-text = one-text;
       a-text = a-text;

@@ -14,7 +14,7 @@ use Rattle.monitor.specs.Reached.{Reached}
 use Rattle.monitor.specs.Sound.{Sound}
 use Rattle.monitor.specs.declared.state.MqttMonitor.{MqttMonitor}
 use Rattle.settings.specs.Convert.{convertEnd, convertKept}
-use Rattle.settings.specs.Loaded.{settingsText, monitorOf, loadedOf, SameSettings}
+use Rattle.settings.specs.Loaded.{settingsText, writtenOf, textKept, monitorOf, loadedOf, SameSettings}
 use Rattle.settings.specs.SettingsText.{Settings, isForm, settingsForm, settingsOf}
 
 -- a text is accepted: it has these settings, and this is its last line
@@ -30,6 +30,10 @@ pub record OneToOne : Type 0 where
   -- what is written of any state that calls handed out, in any form that is known, loads to a monitor with the same settings; its numbers are within their types, as those of every value of the
   -- code are
   pub written-loads : (form : ℕ) (m : MqttMonitor) → isForm form ≡ true → Reached m → Ranged m → LoadsTo (settingsText form m) m
+  -- it is written, too: number 10 is never met there, and 5,532 bytes are always room for it
+  pub is-written :
+      (form : ℕ) (m : MqttMonitor) (d : List ℕ) → isForm form ≡ true → Reached m → Ranged m → 5532 ≤ length d
+      → (writtenOf form m (length d) ≡ record { number = 0; length = length (settingsText form m) }) × (textKept form m d ≡ sets d 0 (settingsText form m))
   -- any accepted text is written back byte for byte, in its own form, from the monitor that it loads to
   pub loaded-written : (s : List ℕ) {v : Settings} {line : ℕ} → Accepted s v line → settingsText (v .form) (monitorOf v) ≡ s
   -- so accepted texts and settings correspond one to one: texts with the same settings are one text, and settings that fit have one

@@ -27,8 +27,6 @@ use Rattle.hub.proofs.matching.hub_starts_with_dollar as matching-hub-starts-wi
 use Rattle.hub.proofs.matching.hub_starts_with_dollar.Reads as matching-hub-starts-with-dollar-reads
 use Rattle.hub.proofs.matching.hub_contains_invalid_publish_char as matching-hub-contains-invalid-publish-char
 use Rattle.hub.proofs.matching.hub_contains_invalid_publish_char.Reads as matching-hub-contains-invalid-publish-char-reads
-use Rattle.hub.proofs.saving.hub_settings as saving-hub-settings
-use Rattle.hub.proofs.saving.hub_settings.Reads as saving-hub-settings-reads
 use Rattle.hub.proofs.tracing.hub_trace as tracing-hub-trace
 use Rattle.hub.proofs.tracing.hub_trace.Reads as tracing-hub-trace-reads
 use Rattle.hub.proofs.tracing.hub_trace_length as tracing-hub-trace-length
@@ -110,12 +108,6 @@ one-matching-hub-contains-invalid-publish-char κs a x y e f p q = p ∙ sym q
 
 pub any-matching-hub-contains-invalid-publish-char : Any matching-hub-contains-invalid-publish-char.ended matching-hub-contains-invalid-publish-char-reads.Asked
 any-matching-hub-contains-invalid-publish-char κs a = tt
-
-pub one-saving-hub-settings : OneLeft saving-hub-settings.ended saving-hub-settings-reads.Post (λ κs e. now (e .1 .1 .0))
-one-saving-hub-settings κs a x y e f p q = (p .0 ∙ sym (q .0), p .1 ∙ sym (q .1))
-
-pub any-saving-hub-settings : Any saving-hub-settings.ended saving-hub-settings-reads.Asked
-any-saving-hub-settings κs a = tt
 
 pub one-tracing-hub-trace : OneLeft tracing-hub-trace.ended tracing-hub-trace-reads.Post (λ κs e. now (e .1 .0))
 one-tracing-hub-trace κs a x y e f p q = (p .0 ∙ sym (q .0), p .1 ∙ sym (q .1))

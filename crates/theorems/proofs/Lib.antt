@@ -1,4 +1,5 @@
 mod Account
+mod AnswersBoot
 mod AnswersCut
 mod AnswersDesk
 mod AnswersForms
