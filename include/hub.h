@@ -1,24 +1,24 @@
 /* hub.h: the hub's message monitor for callers in C11 and C++11. Link target/staticlib/libhub.a, which `rt staticlib
- * hub` proves and writes; for the calls whose names begin with hub_standing, which are for a support desk and not for the
- * part, libdesk.a, which `rt staticlib desk` writes. Each is for x86-64 Linux (ELF, System V calls), as
- * position-independent code; besides the functions below it needs memcpy and memset. bin/header holds this file and the
- * archives to each other.
+ * hub` proves and writes; for hub_settings libboot.a, which `rt staticlib boot` writes; and for the calls whose names begin
+ * with hub_standing, which are for a support desk and not for the part, libdesk.a, which `rt staticlib desk` writes. Each
+ * is for x86-64 Linux (ELF, System V calls), as position-independent code; besides the functions below it needs memcpy and
+ * memset. bin/header holds this file and the archives to each other.
  *
  * The caller's duties, for every function here:
  * - a pointer is not null, also where the length beside it is 0;
  * - a length is at most PTRDIFF_MAX and lies within the object that its pointer points into;
  * - the bytes that are read are initialised, and nothing changes them during the call; `out` need not be initialised;
  * - what a function writes to overlaps no other argument, and nothing else reads or writes it during the call;
- * - there is room on the stack: 96 KiB for a call whose name begins with hub_standing, 48 KiB for hub_settings and for one
- *   whose name begins with hub_trace, 1 KiB for any other (see below).
+ * - there is room on the stack: 96 KiB for a call whose name begins with hub_standing, 48 KiB for one whose name begins
+ *   with hub_trace, 16 KiB for hub_settings, 1 KiB for any other (see below).
  *
  * Each call then returns, allocates nothing, keeps no pointer and has no state: equal arguments give equal answers, on
  * any thread. A bool is 0 or 1.
  *
  * Stack, in bytes below the caller, by measurement (rattle-kit-5b, x86-64; `bin/measure stack` measures again): those of
- * the standing reach 82,392, hub_settings 39,346, those of traces 31,170, every other call at most 256, less not being
- * told apart. Whole, cut and damaged texts were tried; by the disassembly no function of libhub.a calls itself, no frame
- * grows with its input, and the frames add up to no more. libdesk.a was measured alone. */
+ * the standing reach 82,392, those of traces 30,258, hub_settings 12,354, every other call at most 256, less not being
+ * told apart. Whole, cut and damaged texts were tried; by the disassembly no function of libhub.a or libboot.a calls
+ * itself, no frame grows with its input, and the frames add up to no more. libdesk.a was measured alone. */
 #ifndef HUB_H
 #define HUB_H
 

@@ -1,4 +1,4 @@
-//! The exports of the archive target/staticlib/libhub.a, as safe functions on slices. The C declarations stand in
+//! The exports of the archives of hub, desk and boot, as safe functions on slices. The C declarations stand in
 //! include/hub.h; a slice crosses as pointer and length, and a Rust slice always meets the duties named there.
 
 /// The two hashes that tell clients apart.
