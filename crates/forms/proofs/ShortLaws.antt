@@ -1,10 +1,17 @@
 -- How long the texts of a form can be. A reader tests the length of a whole text first (27), so whoever says that what is written is read back has to know it; and whoever lends a buffer wants to.
 -- Assumes nothing.
 use Prim.Native.Nat.{ℕ, suc, _+_, _*_, _^_, _≤_, _<_}
+use mathlib.Core.Bool.{true}
 use mathlib.Core.List.{List, [], _∷_, _++_}
+use mathlib.Core.Path.{_≡_}
 use native.Mathlib.Omega.{arith}
 use native.Mathlib.Nat.{suc-mul}
-use lib.ListN.{length, length-append}
+use lib.Dec.{leb}
+use lib.ListN.{length, length-append, List·getD-eq-default}
+use borrow.Author.Tests.{leb-true}
+use Rattle.laws.specs.Lists.{every}
+use Rattle.laws.proofs.Cases.{by-le}
+use Rattle.laws.proofs.Every.{every-at}
 use Rattle.lines.specs.Word.{wordsOf, wordText}
 use Rattle.lines.proofs.put.DecimalLaws.{decimal-short}
 use Rattle.lines.proofs.lengths.LineLaws.{number-line-length, word-line-length}
@@ -19,10 +26,17 @@ pub number-short : (key : List ℕ) (low high k : ℕ) → high < 10 ^ suc k →
 unfolding numberForm
 number-short key low high k h v f = rw number-line-length (omega (arith, decimal-short k v (omega (arith, h, f .1))))
 
--- a word of so many bytes
-pub word-short : (key ws : List ℕ) (n : ℕ) → ((k : ℕ) → k < length (wordsOf ws) → length (wordText ws k) ≤ n) → Short (wordForm key ws) (length key + n + 1)
+-- a word of a list whose words all have at most so many bytes; past its end there is none
+pub word-long : (ws : List ℕ) (n : ℕ) → every (λ w. leb (length w) n) (wordsOf ws) ≡ true → (k : ℕ) → length (wordText ws k) ≤ n
+unfolding wordText
+word-long ws n e k =
+    by-le (length (wordsOf ws)) k
+    (λ h. rw (List·getD-eq-default (wordsOf ws) [] {n = k} h) (omega arith))
+    (λ h. leb-true _ _ (every-at (λ (w : List ℕ). leb (length w) n) (wordsOf ws) [] k e h))
+
+pub word-short : (key ws : List ℕ) (n : ℕ) → every (λ w. leb (length w) n) (wordsOf ws) ≡ true → Short (wordForm key ws) (length key + n + 1)
 unfolding wordForm
-word-short key ws n h v f = rw word-line-length (omega (arith, h v f))
+word-short key ws n e v f = rw word-line-length (omega (arith, word-long ws n e v))
 
 pub pair-short : {A B : Type 0} (F : Form A) (G : A → Form B) {n m : ℕ} → Short F n → ((a : A) → F .fits a → Short (G a) m) → Short (pairForm F G) (n + m)
 unfolding pairForm

@@ -7,10 +7,11 @@ use native.Mathlib.Omega.{arith}
 use lib.ListN.{length, getD, take, replicate}
 use lib.Seq.{sets, take-all}
 use borrow.Author.Tests.{eq-eqb, le-leb}
+use Rattle.laws.specs.Lists.{every}
 use Rattle.slices.specs.Bytes.{bytes}
 use Rattle.topics.specs.declared.matching.Matching.the-variants.{Port}
 use Rattle.topics.proofs.patterns.PatternLaws.{accepted-length}
-use Rattle.lines.specs.Word.{firstWord, restWords, wordText}
+use Rattle.lines.specs.Word.{firstWord, restWords}
 use Rattle.forms.specs.Form.{took, FitAll, fit-more, wordForm, hexForm, numberForm, pairForm, mapForm, testForm, numberedForm, manyForm}
 use Rattle.forms.proofs.ShortLaws.{Short, number-short, word-short, pair-short, map-short, numbered-short, many-short}
 use Rattle.tables.specs.Rules.{emptyRule, noRule}
@@ -39,30 +40,19 @@ rule-short : (before : List RuleText) → Short (ruleForm before) 171
 unfolding ruleForm testForm mapForm ruleLines pairForm numberForm
 rule-short before v f = lines-short v (accepted-length (v .pattern) (rule-says before v f .0) .1) (let r : v .rate ≤ 65535 = f .0 .0 .1 .1 .1 .1 in omega arith)
 
-one-word : (k : ℕ) → k < 1 → length (wordText (bytes "1") k) ≤ 1
-unfolding wordText firstWord restWords
-one-word zero h = omega arith
-one-word (suc k) h = absurd (omega arith)
-
-action-word : (k : ℕ) → k < 2 → length (wordText (bytes "allow|block") k) ≤ 5
-unfolding wordText firstWord restWords
-action-word zero h = omega arith
-action-word (suc zero) h = omega arith
-action-word (suc (suc k)) h = absurd (omega arith)
-
 body-short : (form : ℕ) → Short (bodyIn form) 53
-unfolding bodyIn actionForm firstWord restWords
+unfolding bodyIn actionForm every firstWord restWords
 body-short form =
-    pair-short _ _ {n = 14} {m = 39} (map-short _ _ _ (word-short (bytes "default=") (bytes "allow|block") 5 action-word))
+    pair-short _ _ {n = 14} {m = 39} (map-short _ _ _ (word-short (bytes "default=") (bytes "allow|block") 5 refl))
     (λ d _.
     pair-short _ _ {n = 13} {m = 26} (number-short (bytes "threshold=") 2 16 1 (omega arith))
     (λ t _.
     pair-short _ _ {n = 17} {m = 9} (number-short (bytes "window=") 1000000 600000000 8 (omega arith)) (λ w _. number-short (bytes "rules=") 0 32 1 (omega arith))))
 
 head-short : Short headLines 60
-unfolding headLines formForm firstWord restWords
+unfolding headLines formForm every firstWord restWords
 head-short =
-    pair-short formForm bodyIn {n = 7} {m = 53} (numbered-short _ _ (map-short _ _ _ (word-short (bytes "form=") (bytes "1") 1 one-word))) (λ f _. body-short f)
+    pair-short formForm bodyIn {n = 7} {m = 53} (numbered-short _ _ (map-short _ _ _ (word-short (bytes "form=") (bytes "1") 1 refl))) (λ f _. body-short f)
 
 head-few : (h : Head) → headLines .fits h → rulesAfter h ≤ 32
 unfolding headLines bodyIn pairForm numberForm

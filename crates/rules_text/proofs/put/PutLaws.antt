@@ -1,26 +1,23 @@
 -- A rule's four lines as the code writes them and sums up their lengths: each is at most 171 bytes long, where the types of the rule's fields hold (`RuleTyped`), and a sum of lengths each capped at
 -- the largest 64-bit number is the length of the text. Assumes nothing.
 use Prim.Native.Nat.{ℕ, _+_, _≤_, _<_}
-use mathlib.Core.Path.{_≡_, sym, ap, _∙_}
+use mathlib.Core.Path.{_≡_, refl, sym, ap, _∙_}
 use mathlib.Core.List.{List, _++_, append-assoc}
 use native.Mathlib.Omega.{arith}
 use lib.ListN.{length, length-append, length-take}
+use Rattle.laws.specs.Lists.{every}
 use Rattle.slices.specs.Bytes.{bytes}
 use Rattle.lines.specs.Line.{hexLine, wordLine, numberLine, capped}
-use Rattle.lines.specs.Word.{firstWord, restWords, wordText}
+use Rattle.lines.specs.Word.{firstWord, restWords}
 use Rattle.lines.specs.Wrote.{Wrote}
 use Rattle.lines.proofs.lengths.LineLaws.{number-line-length, word-line-length, hex-line-length}
 use Rattle.lines.proofs.put.DecimalLaws.{decimal-short}
 use Rattle.lines.proofs.put.WroteLaws.{wrote-then}
 use Rattle.forms.proofs.LineBounds.{uncapped}
+use Rattle.forms.proofs.ShortLaws.{word-long}
 use Rattle.forms.specs.Form.{hexForm, wordForm, numberForm, pairForm, mapForm}
 use Rattle.tables.specs.Numbers.{actionNumber, policyNumber}
 use Rattle.tables.specs.Rules.{patternOf}
-use Rattle.tables.specs.declared.rules.MqttQoS.the-variants.{AtMostOnce, AtLeastOnce, ExactlyOnce}
-use Rattle.tables.specs.declared.rules.QosPolicy.{QosPolicy}
-use Rattle.tables.specs.declared.rules.QosPolicy.the-variants.{Any, MinQoS, ExactQoS}
-use Rattle.tables.specs.declared.rules.TopicAction.{TopicAction}
-use Rattle.tables.specs.declared.rules.TopicAction.the-variants.{Allow, Block}
 use Rattle.tables.specs.declared.rules.TopicRule.{TopicRule}
 use Rattle.rules_text.specs.RuleText.{RuleText, actionForm, policyForm, ruleLines, valuesOf, ruleIn, ruleText}
 
@@ -47,22 +44,6 @@ pub rule-wrote : (r : TopicRule) {u : List ℕ} {a q : ℕ} {d e f g h : List �
 unfolding ruleText
 rule-wrote r eu ea eq p1 p2 p3 p4 = rw (← rule-text (ruleIn r), ← eu, ← ea, ← eq) (wrote-then (wrote-then (wrote-then p1 p2) p3) p4)
 
--- how long the words are
-action-long : (a : TopicAction) → length (wordText actions (actionNumber a)) ≤ 5
-unfolding wordText firstWord restWords
-action-long Allow = omega arith
-action-long Block = omega arith
-
-policy-long : (q : QosPolicy) → length (wordText policies (policyNumber q)) ≤ 5
-unfolding wordText firstWord restWords
-policy-long Any = omega arith
-policy-long (MinQoS AtMostOnce) = omega arith
-policy-long (MinQoS AtLeastOnce) = omega arith
-policy-long (MinQoS ExactlyOnce) = omega arith
-policy-long (ExactQoS AtMostOnce) = omega arith
-policy-long (ExactQoS AtLeastOnce) = omega arith
-policy-long (ExactQoS ExactlyOnce) = omega arith
-
 -- what the types of a rule's fields hold
 pub record RuleTyped (r : TopicRule) : Type 0 where
   pub long : length (r .pattern) ≡ 64
@@ -75,15 +56,16 @@ module _ (v : RuleText) where
 
   -- a rule's lines with a pattern that may be held
   pub lines-short : length (v .pattern) ≤ 64 → v .rate < 65536 → length (ruleLines .text (valuesOf v)) ≤ 171
+  unfolding every firstWord restWords
   lines-short h g =
       omega (
         arith,
         text-length,
         hex-line-length (bytes "pattern=") (v .pattern),
         word-line-length (bytes "action=") actions (actionNumber (v .action)),
-        action-long (v .action),
+        word-long actions 5 refl (actionNumber (v .action)),
         word-line-length (bytes "qos=") policies (policyNumber (v .policy)),
-        policy-long (v .policy),
+        word-long policies 5 refl (policyNumber (v .policy)),
         number-line-length (bytes "rate=") (v .rate),
         decimal-short 4 (v .rate) (omega (arith, g)),
       )

@@ -1,22 +1,23 @@
 -- The lines before the rules as the code writes them and sums up their lengths: together at most 75 bytes, where the types of their values hold (`HeadTyped`), and a sum of lengths each capped at the
 -- largest 64-bit number is the length of the text. Assumes nothing.
-use Prim.Native.Nat.{ℕ, zero, suc, _+_, _^_, _≤_, _<_}
-use mathlib.Core.Path.{_≡_, sym, ap, _∙_}
+use Prim.Native.Nat.{ℕ, _+_, _^_, _≤_, _<_}
+use mathlib.Core.Path.{_≡_, refl, sym, ap, _∙_}
 use mathlib.Core.List.{List, _++_, append-assoc}
 use native.Mathlib.Omega.{arith}
 use lib.ListN.{length, length-append}
+use Rattle.laws.specs.Lists.{every}
 use Rattle.slices.specs.Bytes.{bytes}
 use Rattle.lines.specs.Line.{wordLine, numberLine, capped}
-use Rattle.lines.specs.Word.{firstWord, restWords, wordText}
+use Rattle.lines.specs.Word.{firstWord, restWords}
 use Rattle.lines.specs.Wrote.{Wrote}
 use Rattle.lines.proofs.lengths.LineLaws.{number-line-length, word-line-length}
 use Rattle.lines.proofs.put.DecimalLaws.{decimal-short, decimal-20}
 use Rattle.lines.proofs.put.WroteLaws.{wrote-then}
 use Rattle.forms.proofs.LineBounds.{uncapped}
+use Rattle.forms.proofs.ShortLaws.{word-long}
 use Rattle.forms.specs.Form.{wordForm, numberForm, pairForm, mapForm, numberedForm}
 use Rattle.tables.specs.Numbers.{actionNumber}
 use Rattle.tables.specs.declared.rules.TopicAction.{TopicAction}
-use Rattle.tables.specs.declared.rules.TopicAction.the-variants.{Allow, Block}
 use Rattle.rules_text.specs.RuleText.{actionForm}
 use Rattle.settings.specs.SettingsText.{Head, formPlace, formForm, bodyIn, headLines}
 
@@ -26,17 +27,6 @@ forms = bytes "1"
 
 abbrev actions : List ℕ
 actions = bytes "allow|block"
-
--- how long the words are
-form-long : (k : ℕ) → length (wordText forms k) ≤ 1
-unfolding wordText firstWord restWords
-form-long zero = omega arith
-form-long (suc k) = omega arith
-
-action-long : (a : TopicAction) → length (wordText actions (actionNumber a)) ≤ 5
-unfolding wordText firstWord restWords
-action-long Allow = omega arith
-action-long Block = omega arith
 
 -- what the types of the values hold
 pub record HeadTyped (threshold window rules : ℕ) : Type 0 where
@@ -67,14 +57,15 @@ module _ (form : ℕ) (action : TopicAction) (threshold window rules : ℕ) wher
 
   -- the text is short
   head-short : HeadTyped threshold window rules → length (headLines .text head) ≤ 75
+  unfolding every firstWord restWords
   head-short t =
       omega (
         arith,
         text-length,
         word-line-length (bytes "form=") forms (formPlace form),
-        form-long (formPlace form),
+        word-long forms 1 refl (formPlace form),
         word-line-length (bytes "default=") actions (actionNumber action),
-        action-long action,
+        word-long actions 5 refl (actionNumber action),
         number-line-length (bytes "threshold=") threshold,
         decimal-short 2 threshold (omega (arith, t .threshold8)),
         number-line-length (bytes "window=") window,

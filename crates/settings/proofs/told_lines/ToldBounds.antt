@@ -1,10 +1,11 @@
 -- How long the lines are at most that tell what a settings text sets, where the types of what they tell hold. Assumes nothing.
 use Prim.Native.Nat.{ℕ, _+_, _/_, _^_, _≤_, _<_}
-use mathlib.Core.Path.{_≡_, ap, _∙_}
+use mathlib.Core.Path.{_≡_, refl, ap, _∙_}
 use mathlib.Core.List.{List, _++_}
 use native.Mathlib.Omega.{arith}
 use borrow.Author.Tests.{eq-eqb, ne-eqb}
 use lib.ListN.{length, length-append}
+use Rattle.laws.specs.Lists.{every}
 use Rattle.slices.specs.Bytes.{bytes}
 use Rattle.topics.specs.Shown.{shown}
 use Rattle.topics.proofs.shown.ShownLaws.{shown-length}
@@ -13,12 +14,10 @@ use Rattle.lines.specs.Line.{numberLine, hexLine, wordLine, secondsLine}
 use Rattle.lines.specs.Word.{firstWord, restWords, wordText}
 use Rattle.lines.proofs.lengths.LineLaws.{number-line-length, hex-line-length, word-line-length, seconds-line-length}
 use Rattle.lines.proofs.put.DecimalLaws.{decimal-short, decimal-20}
+use Rattle.forms.proofs.ShortLaws.{word-long}
 use Rattle.tables.specs.Numbers.{actionNumber, policyNumber}
-use Rattle.tables.specs.declared.rules.MqttQoS.the-variants.{AtMostOnce, AtLeastOnce, ExactlyOnce}
 use Rattle.tables.specs.declared.rules.QosPolicy.{QosPolicy}
-use Rattle.tables.specs.declared.rules.QosPolicy.the-variants.{Any, MinQoS, ExactQoS}
 use Rattle.tables.specs.declared.rules.TopicAction.{TopicAction}
-use Rattle.tables.specs.declared.rules.TopicAction.the-variants.{Allow, Block}
 use Rattle.rules_text.specs.RuleText.{RuleText}
 use Rattle.settings.specs.Told.{closingTold, connectTold, headTold, rateTold, rulingTold, patternTold, ruleTold}
 
@@ -43,29 +42,9 @@ connect-short threshold window h g =
     let b = decimal-short 13 (window / 1000000) (omega (arith, g)) in
     omega (arith, connect-length threshold window, seconds-line-length (bytes " or more of one client is denied; they are counted over this many seconds: ") window)
 
--- how long the words are
-default-long : (a : TopicAction) → length (wordText (bytes "allowed|blocked") (actionNumber a)) ≤ 7
-unfolding wordText firstWord restWords
-default-long Allow = omega arith
-default-long Block = omega arith
-
-action-long : (a : TopicAction) → length (wordText (bytes ". allow|. block") (actionNumber a)) ≤ 7
-unfolding wordText firstWord restWords
-action-long Allow = omega arith
-action-long Block = omega arith
-
+-- the words of a policy
 abbrev pub policies : List ℕ
 policies = bytes ", any QoS|, alert below QoS 0|, alert below QoS 1|, alert below QoS 2|, alert unless QoS 0|, alert unless QoS 1|, alert unless QoS 2"
-
-policy-long : (q : QosPolicy) → length (wordText policies (policyNumber q)) ≤ 20
-unfolding wordText firstWord restWords
-policy-long Any = omega arith
-policy-long (MinQoS AtMostOnce) = omega arith
-policy-long (MinQoS AtLeastOnce) = omega arith
-policy-long (MinQoS ExactlyOnce) = omega arith
-policy-long (ExactQoS AtMostOnce) = omega arith
-policy-long (ExactQoS AtLeastOnce) = omega arith
-policy-long (ExactQoS ExactlyOnce) = omega arith
 
 module _ (form : ℕ) (default : TopicAction) (threshold window rules : ℕ) where
   head-length : length (headTold form default threshold window rules)
@@ -75,10 +54,11 @@ module _ (form : ℕ) (default : TopicAction) (threshold window rules : ℕ) whe
   head-length = simp length-append
 
   pub head-short : form < 2 ^ 32 → rules < 65536 → length (connectTold threshold window) ≤ 150 → length (headTold form default threshold window rules) ≤ 340
+  unfolding every firstWord restWords
   head-short h g s =
       let a = decimal-20 form (omega (arith, h)) in
       let b = decimal-short 4 rules (omega (arith, g)) in
-      let w = default-long default in
+      let w = word-long (bytes "allowed|blocked") 7 refl (actionNumber default) in
       omega (
         arith,
         s,
@@ -112,7 +92,8 @@ module _ (place : ℕ) (action : TopicAction) (policy : QosPolicy) (rate : ℕ) 
   ruling-length = simp length-append
 
   pub ruling-short : place < 2 ^ 64 → length (rateTold rate) ≤ 40 → length (rulingTold place action policy rate) ≤ 90
-  ruling-short h s = let a = decimal-20 place h in omega (arith, s, ruling-length, action-long action, policy-long policy)
+  unfolding every firstWord restWords
+  ruling-short h s = let a = decimal-20 place h in omega (arith, s, ruling-length, word-long (bytes ". allow|. block") 7 refl (actionNumber action), word-long policies 20 refl (policyNumber policy))
 
 pattern-length : (p : List ℕ) → length (patternTold p) ≡ 8 + length (shown p) + length (hexLine (bytes "\n   pattern=") p)
 unfolding patternTold
