@@ -23,7 +23,7 @@ const EXAMPLE: &str = "form=1\ndefault=allow\nthreshold=5\nwindow=60000000\nrule
     pattern=6d2f2b\naction=allow\nqos=any\nrate=1\npattern=c3a9\naction=block\nqos=only2\nrate=65535\n";
 
 /// Texts with the number and the line that the request says: what stands in place of these words of the example.
-const KNOWN: [(&str, &str, u32, u64); 52] = [
+const KNOWN: [(&str, &str, u32, u64); 53] = [
     ("", "", 0, 13),
     ("form=1\n", "form=\n", 29, 1),
     ("form=1\n", "form=01\n", 29, 1),
@@ -42,6 +42,7 @@ const KNOWN: [(&str, &str, u32, u64); 52] = [
     ("threshold=5", "threshold=05", 22, 3),
     ("threshold=5", "threshold=", 22, 3),
     ("threshold=5", "threshold=+5", 22, 3),
+    ("window=60000000", "window=0", 22, 4),
     ("window=60000000", "window=999999", 22, 4),
     ("window=60000000", "window=1000000", 0, 13),
     ("window=60000000", "window=600000000", 0, 13),
