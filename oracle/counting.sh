@@ -11,13 +11,11 @@ original() {
     touch "$room/built"
 }
 
-# host [--lto] NAME: builds a program of oracle/src over the original and the archives of hub, desk and boot, which are proved once a run.
+# host [--lto] NAME: builds a program of oracle/src over the original and the archives of hub, desk and boot.
 host() {
     original
     if [ -z "${HUB_ARCHIVE-}" ]; then
-        rt staticlib hub >&2
-        rt staticlib desk >&2
-        rt staticlib boot >&2
+        for crate in hub desk boot; do oracle/archive "$crate" >&2; done
         HUB_ARCHIVE=$root/target/staticlib
     fi
     oracle/host "$@" "$HUB_ARCHIVE" hub desk boot
