@@ -1,6 +1,12 @@
 """The public `inspect` in the program `calls`, looked at by gdb (bin/measure inspect): the copies that one call makes, its deepest stack below the
 caller, and its instructions. The script given to the program ends in that call; the ones before it only count up to it."""
+import os
+import sys
+
 import gdb
+
+sys.path.insert(0, os.path.dirname(__file__))
+from looking import register, returns_to
 
 PROGRAM, SCRIPT, BEFORE = "target/bin/calls", "target/inspect.in", 39
 STATE = 8376  # bytes of MqttMonitor
@@ -14,15 +20,8 @@ def started():
     for _ in range(BEFORE):
         gdb.execute("continue", to_string=True)
     entry.delete()
-    return int(gdb.parse_and_eval("*(unsigned long *)$rsp"))
+    return returns_to()
 
-
-def register(name):
-    return int(gdb.parse_and_eval(name))
-
-
-for word in ("pagination off", "confirm off"):
-    gdb.execute(f"set {word}")
 
 back = started()
 top = low = register("$rsp")

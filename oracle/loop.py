@@ -1,15 +1,16 @@
 """The stack of inspections in a loop, once the rules are there (bin/measure loop): gdb stops oracle/src/benchloop.rs before the first message, paints the stack
 below, and looks how deep the messages reached. The start, which adds the rules, reaches deeper and is not part of an inspection."""
+import os
 import re
+import sys
 
 import gdb
 
+sys.path.insert(0, os.path.dirname(__file__))
+from looking import paint, reached, register, returns_to
+
 PROGRAM, CELLS = "target/oracle/benchloop", [(rules, topics) for rules in (1, 32) for topics in (1, 32, 64)]
-MESSAGES, ROOM, PAINT = 200, 49152, b"\xa5"
-
-
-def register(name):
-    return int(gdb.parse_and_eval(name))
+MESSAGES = 200
 
 
 def entry(name):
@@ -21,7 +22,7 @@ def run_to(place):
     """The program, stopped at a place; where it returns to, if that is the entry of a function."""
     gdb.execute(f"tbreak *{place}", to_string=True)
     gdb.execute("continue", to_string=True)
-    return int(gdb.parse_and_eval("*(unsigned long *)$rsp"))
+    return returns_to()
 
 
 def depth(side, rules, topics):
@@ -33,19 +34,14 @@ def depth(side, rules, topics):
         run_to(run_to(entry("loops::inspections::readied")))
     else:
         run_to(entry("vs_mqtt_monitor::MqttMonitor::inspect"))
-    low = register("$rsp") - ROOM
-    stack = gdb.selected_inferior()
-    stack.write_memory(low, PAINT * ROOM)
+    place = register("$rsp")
+    paint(place)
     run_to(back)
-    left = bytes(stack.read_memory(low, ROOM))
-    kept = len(left) - len(left.lstrip(PAINT))
-    assert kept > 0, "deeper than the painted part"
+    deep = top - place + reached(place)
     gdb.execute("kill", to_string=True)
-    return top - low - kept
+    return deep
 
 
-for word in ("pagination off", "confirm off"):
-    gdb.execute(f"set {word}")
 gdb.execute(f"file {PROGRAM}")
 deepest = {side: max(depth(side, *cell) for cell in CELLS) for side in ("hub", "rust")}
 print(f"deepest stack of the messages, state included: Rattle {deepest['hub']} bytes, Rust {deepest['rust']} bytes")
