@@ -1,4 +1,4 @@
-// A settings text, loaded and written back (request C-13).
+// A settings text, loaded and written back, in its own form or the other one (requests C-13 and C-18).
 use settings::convert::SettingsEnd;
 use settings::convert::convert_settings;
 ghost use mathlib.Core.Path.{_≡_};

@@ -2,7 +2,7 @@
 use Prim.Native.Nat.{ℕ, _+_, _-_, _≤_, _<_}
 use mathlib.Core.Path.{_≡_, refl}
 use mathlib.Core.Bool.{true}
-use mathlib.Core.List.{List, _++_}
+use mathlib.Core.List.{List, [], _∷_, _++_}
 use native.Mathlib.Omega.{arith}
 use lib.Dec.{eqb, ltb}
 use lib.ListN.{length, getD}
@@ -87,6 +87,12 @@ module _ (key ws : List ℕ) where
   unfolding wordLine wordField answered
   word-there kp wp d {s} {at} {r} n h a =
       rw (line-there key kp (wordText ws n) (word-plain ws n wp) a, line-value key kp (wordText ws n) (word-plain ws n wp) a, round .word-read ws n d h, answered)
+
+  -- a value that is none of the words is 23
+  pub word-not-there : every inLine key ≡ true → (v : List ℕ) → every inLine v ≡ true → wordOf ws v ≡ Bad → {s : List ℕ} {at r : ℕ} → Stands s at (key ++ v ++ (10 ∷ [])) r
+      → wordField s at key ws .number ≡ 23
+  unfolding wordField answered
+  word-not-there kp v vp b a = rw (line-there key kp v vp a, line-value key kp v vp a, b, answered)
 
   pub word-back : (s : List ℕ) (at : ℕ) → wordField s at key ws .number ≡ 0
       → Stands s at (wordLine key ws (wordField s at key ws .value)) (wordField s at key ws .next) × (wordField s at key ws .value < length (wordsOf ws))

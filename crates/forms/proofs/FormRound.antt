@@ -20,7 +20,7 @@ use Rattle.laws.proofs.Every.{every-both}
 use Rattle.lines.proofs.HexRound.{unhex-length}
 use Rattle.lines.proofs.value.HexLaws.{hex-kinds, hex-taken}
 use Rattle.forms.specs.Stands.{Stands}
-use Rattle.forms.specs.Form.{Took, took, stopped, onTook, Form, Round, fieldTook, numberForm, wordForm, hexForm, pairForm, mapForm, testForm}
+use Rattle.forms.specs.Form.{Took, took, stopped, onTook, Form, Round, fieldTook, numberForm, wordForm, hexForm, noneForm, pairForm, mapForm, testForm}
 use Rattle.forms.specs.Form.{textAll, countAll, FitAll, fit-none, fit-more, readAll, manyForm, ended, renumbered, numberedForm, wholeOf}
 use Rattle.forms.proofs.PlainLaws.{inLine}
 use Rattle.forms.proofs.StandsLaws.{stands-none, stands-then, stands-first, stands-second, stands-whole, stands-all}
@@ -111,6 +111,14 @@ hex-round key room kp =
     }
 
 -- WAYS TO PUT FORMS TOGETHER
+
+pub none-round : {A : Type 0} (a : A) → Round (noneForm a)
+unfolding noneForm
+none-round a =
+    record {
+      there = λ line h b. took-eq (sym h) (omega (arith, b .next)) (omega arith);
+      back = λ s at line e. let q = took-same e in (rw (← q .1) (stands-none s at), sym (q .0), omega (arith, q .2));
+    }
 
 pub pair-round : {A B : Type 0} (F : Form A) (G : A → Form B) → Round F → ((a : A) → Round (G a)) → Round (pairForm F G)
 unfolding pairForm

@@ -15,7 +15,7 @@ use Rattle.laws.proofs.Every.{every-at}
 use Rattle.lines.specs.Word.{wordsOf, wordText}
 use Rattle.lines.proofs.put.DecimalLaws.{decimal-short}
 use Rattle.lines.proofs.lengths.LineLaws.{number-line-length, word-line-length}
-use Rattle.forms.specs.Form.{Form, numberForm, wordForm, pairForm, mapForm, numberedForm, textAll, FitAll, fit-more, manyForm}
+use Rattle.forms.specs.Form.{Form, numberForm, wordForm, noneForm, pairForm, mapForm, numberedForm, textAll, FitAll, fit-more, manyForm}
 
 -- no text of a value that fits is longer
 abbrev pub Short : {A : Type 0} → Form A → ℕ → Type 0
@@ -37,6 +37,10 @@ word-long ws n e k =
 pub word-short : (key ws : List ℕ) (n : ℕ) → every (λ w. leb (length w) n) (wordsOf ws) ≡ true → Short (wordForm key ws) (length key + n + 1)
 unfolding wordForm
 word-short key ws n e v f = rw word-line-length (omega (arith, word-long ws n e v))
+
+pub none-short : {A : Type 0} (a : A) → Short (noneForm a) 0
+unfolding noneForm
+none-short a v f = omega arith
 
 pub pair-short : {A B : Type 0} (F : Form A) (G : A → Form B) {n m : ℕ} → Short F n → ((a : A) → F .fits a → Short (G a) m) → Short (pairForm F G) (n + m)
 unfolding pairForm

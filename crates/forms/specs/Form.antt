@@ -81,6 +81,10 @@ hexForm key room =
 
 -- WAYS TO PUT FORMS TOGETHER
 
+-- no line at all: it stands for one value
+unfoldable pub noneForm : {A : Type 0} → A → Form A
+noneForm a = record { text = λ v. []; count = λ v. 0; fits = λ v. v ≡ a; read = λ s at line. took a at line }
+
 -- one form and then another, which may depend on the value of the first
 unfoldable pub pairForm : {A B : Type 0} → Form A → (A → Form B) → Form (A × B)
 pairForm F G =

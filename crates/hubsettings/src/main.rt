@@ -1,10 +1,17 @@
-// hubsettings: a settings text on standard input, what it sets on standard output, in words (request C-13). All of the work is `settings::told::tell_settings`; here are only the two buffers and the
-// way in and out. That what is told is whole is promised by `answer`; what `read` and `write` move is the C library's word.
-// A program has no exit status of its own: it says on standard error what failed, and nothing where nothing did. `bin/hubsettings` makes a status of that.
+// hubsettings: a settings text on standard input, what it sets on standard output, in words (request C-13); or that text in another form (request C-18). All of the work is `tell_settings` and
+// `turn_settings` of `settings::told`; here are only the two buffers and the way in and out. That what is told is whole is promised by `answer` and `turn`; what `read` and `write` move is the C library's
+// word.
+// A program has no exit status of its own: it says on standard error what failed, and nothing where nothing did. `bin/hubsettings` makes a status of that. A text that is refused in the form that is
+// asked for is said there too, by number and line, so that nothing on standard output can be taken for settings.
+pub mod asked;
+
+use asked::Asked;
 use libc::STDERR_FILENO;
 use libc::STDIN_FILENO;
 use libc::STDOUT_FILENO;
+use settings::told::SettingsTold;
 use settings::told::tell_settings;
+use settings::told::turn_settings;
 use streams::input;
 use streams::output;
 use streams::turn::Done;
@@ -13,7 +20,7 @@ ghost use lib.ListN.{length, take};
 ghost use Rattle.settings.specs.Told.{toldRoom};
 ghost use Rattle.io.specs.Counts.{Counts};
 ghost use Rattle.streams.specs.Turns.{DoneWithin};
-ghost use Rattle.hubsettings.specs.Answered.{answerTo};
+ghost use Rattle.hubsettings.specs.Answered.{answerTo, turnTo, turnEnd};
 
 // Room for the longest settings text, 65,536 bytes, and for one byte more, by which a longer one is known (27).
 fn text_buffer() -> [u8; 65537]
@@ -43,6 +50,24 @@ fn answer(read: Done, text: &[u8], out: &mut [u8]) -> usize
     told.length
 }
 
+// The text that was read in a form, or how it is refused, at the beginning of `out`, and how that ended. 28 never happens here either.
+fn turn(form: u32, read: Done, text: &[u8], out: &mut [u8]) -> SettingsTold
+    requires { ⌜ DoneWithin read (length (now text)) ⌝ }
+    requires { ⌜ toldRoom ≡ length (now out) ⌝ }
+    ensures { λ r. ⌜ r ≡ turnEnd form toldRoom read (now (text .entry)) ⌝ }
+    ensures { λ r. ⌜ Counts (r .length) (now (out .exit)) ⌝ }
+    ensures { λ r. ⌜ take (r .length) (now (out .exit)) ≡ turnTo form read (now (text .entry)) ⌝ }
+{
+    let Done::Bytes(n) = read else {
+        return SettingsTold {
+            number: 0,
+            line: 0,
+            length: 0,
+        };
+    };
+    turn_settings(&text[..n], form, out)
+}
+
 // Writes the answer, and says so where that failed.
 fn print(answer: &[u8]) {
     let written = output::write_all(STDOUT_FILENO, answer);
@@ -52,7 +77,7 @@ fn print(answer: &[u8]) {
 }
 
 // Reads a settings text, and writes what it sets; or says what failed.
-fn run() {
+fn tell() {
     let mut text = text_buffer();
     let read = input::read_all(STDIN_FILENO, &mut text);
     let mut out = answer_buffer();
@@ -65,13 +90,33 @@ fn run() {
     }
 }
 
-fn main() {
-    if 1 < os::arg_count() {
-        io::write_all(
-            STDERR_FILENO,
-            b"hubsettings: it takes no words, and reads the settings from standard input\n",
-        );
+// Reads a settings text, and writes it in a form; or says what refused it or failed.
+fn convert(form: u32) {
+    let mut text = text_buffer();
+    let read = input::read_all(STDIN_FILENO, &mut text);
+    let mut out = answer_buffer();
+    let end = turn(form, read, &text, &mut out);
+    if let Done::Failed = read {
+        os::fail(b"hubsettings: the settings could not be read, so nothing was answered");
         return;
     }
-    run();
+    if end.number != 0 {
+        io::write_all(STDERR_FILENO, &out[..end.length]);
+        return;
+    }
+    print(&out[..end.length]);
+}
+
+fn main() {
+    let asked = asked::by_words();
+    match asked {
+        Asked::Tell => tell(),
+        Asked::To(form) => convert(form),
+        Asked::Unknown => {
+            io::write_all(
+                STDERR_FILENO,
+                b"hubsettings: it takes --to=1 or --to=2, and reads the settings from standard input\n",
+            );
+        }
+    }
 }

@@ -26,7 +26,8 @@ use Rattle.monitor.specs.Sound.{Sound}
 use Rattle.monitor.specs.declared.state.MqttMonitor.{MqttMonitor}
 use Rattle.monitor.proofs.state.FormedLaws.{formed-parts}
 use Rattle.settings.specs.Loaded.{settingsIn, ruleHeld, tableOf, monitorOf, SameSettings}
-use Rattle.settings.specs.SettingsText.{isForm, formForm, bodyIn, headLines, settingsLines, settingsForm}
+use Rattle.settings.specs.SettingsText.{formRefusal, bodyIn, headLines, settingsLines, settingsForm}
+use Rattle.settings.proofs.FormLaws.{taken-known, form-fits, match-fits}
 
 -- every action and every policy has its word
 action-fits : (key : List ℕ) (a : TopicAction) → actionForm key .fits a
@@ -36,11 +37,6 @@ action-fits key a = let b = action-back a in (omega (arith, b .1), b .0)
 policy-fits : (q : QosPolicy) → policyForm .fits q
 unfolding policyForm mapForm wordForm firstWord restWords
 policy-fits q = let b = policy-back q in (omega (arith, b .1), b .0)
-
--- every form that is known has its word
-form-fits : (form : ℕ) → isForm form ≡ true → formForm .fits form
-unfolding formForm numberedForm mapForm wordForm firstWord restWords
-form-fits form e = let q : form ≡ 1 = eqb-true _ _ e in (omega arith, omega arith)
 
 -- a pattern that differs from each before it is not given
 not-given : (rs : List TopicRule) (p : List ℕ) → ((i : ℕ) → i < length rs → same (patternOf (getD rs i noRule)) p ≡ false) → givenIn (map ruleIn rs) p ≡ false
@@ -119,15 +115,18 @@ module _ (m : MqttMonitor) (s : Sound m) where
       let q : j < i = rw (length-take-le i (m .rules) (rw (s .rules-sound .size) (omega (arith, count-le)))) at k in
       rw (getD-take i (m .rules) j noRule q) (s .rules-sound .apart j i q h)))))
 
-  -- the settings of a sound monitor fit, in every form that is known
-  pub settings-fit : Ranged m → (form : ℕ) → isForm form ≡ true → settingsForm .fits (settingsIn form m)
+  -- the settings of a sound monitor fit, in every form that is not refused for them
+  pub settings-fit : Ranged m → (form : ℕ) → formRefusal form (m .matching) ≡ 0 → settingsForm .fits (settingsIn form m)
   unfolding settingsForm mapForm settingsLines pairForm headLines bodyIn numberForm manyForm
   settings-fit ranged form h =
       let n : length texts ≤ 32 = rw (length-map, held-long) count-le in (
         (
           (
-            form-fits form h,
-            (action-fits (bytes "default=") (m .«default_action»), ((s .threshold-low, s .threshold-high), ((s .window-low, s .window-high), (omega arith, n)))),
+            form-fits form (taken-known form (m .matching) h),
+            (
+              action-fits (bytes "default=") (m .«default_action»),
+              (match-fits form (m .matching) h, ((s .threshold-low, s .threshold-high), ((s .window-low, s .window-high), (omega arith, n)))),
+            ),
           ),
           (refl, rules-fit ranged),
         ),
@@ -170,4 +169,4 @@ module _ (m : MqttMonitor) (s : Sound m) where
   pub settings-same : (form : ℕ) → SameSettings (monitorOf (settingsIn form m)) m
   unfolding monitorOf fresh
   settings-same form =
-      record { default-same = refl; threshold-same = refl; window-same = refl; count-same = rw length-map held-long; rules-same = table-back }
+      record { default-same = refl; matching-same = refl; threshold-same = refl; window-same = refl; count-same = rw length-map held-long; rules-same = table-back }

@@ -10,7 +10,7 @@ use lib.ListN.{length, length-append}
 use borrow.Author.Tests.{eqb-true, eqb-false}
 use Rattle.laws.proofs.Cases.{by}
 use Rattle.topics.specs.Patterns.{patternRefusal}
-use Rattle.topics.specs.declared.matching.Matching.the-variants.{Port}
+use Rattle.topics.specs.declared.matching.Matching.{Matching}
 use Rattle.topics.proofs.patterns.PatternLaws.{accepted-length}
 use Rattle.forms.specs.Form.{FitAll, fit-more, testForm, pairForm, mapForm, numberForm, manyForm}
 use Rattle.tables.specs.Rules.{isHeld}
@@ -42,50 +42,51 @@ fit-brief before [] f = brief-none
 fit-brief before (a ∷ rs) (fit-more h more) = brief-more (accepted-length (a .pattern) (rule-says before a h .0) .1) (fit-brief (before ++ (a ∷ [])) rs more)
 
 -- a fresh monitor with CONNECT settings and some rules
-abbrev holds : TopicAction → ℕ → ℕ → List RuleText → MqttMonitor
-holds d t w rs = withSettings (withRules (fresh Port d) (tableOf rs) (length rs)) t w
+abbrev holds : Matching → TopicAction → ℕ → ℕ → List RuleText → MqttMonitor
+holds m d t w rs = withSettings (withRules (fresh m d) (tableOf rs) (length rs)) t w
 
-module _ (P : MqttMonitor → Type 0) (make : (default : TopicAction) → P (fresh Port default)) (set-storm : (m : MqttMonitor) → P m → (t w : ℕ) → P (setStorm m t w .monitor))
+module _ (P : MqttMonitor → Type 0) (make : (matching : Matching) (default : TopicAction) → P (fresh matching default)) (set-storm : (m : MqttMonitor) → P m → (t w : ℕ) → P (setStorm m t w .monitor))
     (add : (m : MqttMonitor) → P m → (p : List ℕ) (action : TopicAction) (policy : QosPolicy) (rate : ℕ) → P (addRule m p action policy rate .monitor)) where
-  module _ (d : TopicAction) (t w : ℕ) where
+  module _ (m : Matching) (d : TopicAction) (t w : ℕ) where
     -- one rule more
-    one-more : (before : List RuleText) (a : RuleText) → Sound (holds d t w before) → Brief before → length before < 32 → ruleForm before .fits a
-        → addRule (holds d t w before) (a .pattern) (a .action) (a .policy) (a .rate) .monitor ≡ holds d t w (before ++ (a ∷ []))
+    one-more : (before : List RuleText) (a : RuleText) → Sound (holds m d t w before) → Brief before → length before < 32 → ruleForm before .fits a
+        → addRule (holds m d t w before) (a .pattern) (a .action) (a .policy) (a .rate) .monitor ≡ holds m d t w (before ++ (a ∷ []))
     unfolding fresh
     one-more before a s b h f =
         let q = rule-says before a f in
         let g : isHeld (tableOf before) (length before) (a .pattern) ≡ false = held-given (a .pattern) before b (omega arith) ∙ q .1 in
         let e = plan-new (tableOf before) (length before) (a .pattern) (a .action) (a .policy) (a .rate) refl (q .0) refl refl g h in
         let n : length (before ++ (a ∷ [])) ≡ length before + 1 = rw length-append (omega arith) in
-        add-takes (holds d t w before) (a .pattern) (a .action) (a .policy) (a .rate) e (s .formed) refl
-        ∙ (λ k. withSettings (withRules (fresh Port d) (table-more before a h k) (sym n k)) t w)
+        add-takes (holds m d t w before) (a .pattern) (a .action) (a .policy) (a .rate) e (s .formed) refl
+        ∙ (λ k. withSettings (withRules (fresh m d) (table-more before a h k) (sym n k)) t w)
 
-    all-added : (before rs : List RuleText) → P (holds d t w before) → Sound (holds d t w before) → Brief before → length before + length rs ≤ 32 → FitAll ruleForm before rs
-        → P (holds d t w (before ++ rs))
+    all-added : (before rs : List RuleText) → P (holds m d t w before) → Sound (holds m d t w before) → Brief before → length before + length rs ≤ 32 → FitAll ruleForm before rs
+        → P (holds m d t w (before ++ rs))
     all-added before [] p s b h f = rw (append-nil before) p
     all-added before (a ∷ rs) p s b h (fit-more fa fr) =
         let e = one-more before a s b (omega arith) fa in
         let n : length (before ++ (a ∷ [])) ≡ length before + 1 = rw length-append (omega arith) in
-        let p′ : P (holds d t w (before ++ (a ∷ []))) = rw e at (add (holds d t w before) p (a .pattern) (a .action) (a .policy) (a .rate)) in
-        let s′ : Sound (holds d t w (before ++ (a ∷ []))) = rw e at (sound-add s (a .pattern) (a .action) (a .policy) (a .rate)) in
+        let p′ : P (holds m d t w (before ++ (a ∷ []))) = rw e at (add (holds m d t w before) p (a .pattern) (a .action) (a .policy) (a .rate)) in
+        let s′ : Sound (holds m d t w (before ++ (a ∷ []))) = rw e at (sound-add s (a .pattern) (a .action) (a .policy) (a .rate)) in
         rw (append-assoc before (a ∷ []) rs) at
         (all-added (before ++ (a ∷ [])) rs p′ s′ (brief-join a b (accepted-length (a .pattern) (rule-says before a fa .0) .1)) (omega arith) fr)
 
     -- the CONNECT settings are in their ranges, so that none is clamped
-    storm-is : 2 ≤ t → t ≤ 16 → 1000000 ≤ w → w ≤ 600000000 → setStorm (fresh Port d) t w .monitor ≡ holds d t w []
+    storm-is : 2 ≤ t → t ≤ 16 → 1000000 ≤ w → w ≤ 600000000 → setStorm (fresh m d) t w .monitor ≡ holds m d t w []
     unfolding setStorm fresh
     storm-is a b c e =
-        let f = sound-fresh Port d .formed in
-        let m : min (max t 2) 16 ≡ t = omega arith in
-        let n : min (max w 1000000) 600000000 ≡ w = omega arith in
-        rw (f, m, n)
+        let f = sound-fresh m d .formed in
+        let x : min (max t 2) 16 ≡ t = omega arith in
+        let y : min (max w 1000000) 600000000 ≡ w = omega arith in
+        rw (f, x, y)
 
   -- what calls keep holds of the monitor with settings that fit
   pub by-calls : (v : Settings) → settingsForm .fits v → P (monitorOf v)
   unfolding settingsForm mapForm settingsLines pairForm headLines bodyIn numberForm manyForm monitorOf
   by-calls v f =
-      let x = f .0 .0 .1 .1 in
-      let e = storm-is (v .default) (v .threshold) (v .window) (x .0 .0) (x .0 .1) (x .1 .0 .0) (x .1 .0 .1) in
-      let p : P (holds (v .default) (v .threshold) (v .window) []) = rw e at (set-storm (fresh Port (v .default)) (make (v .default)) (v .threshold) (v .window)) in
-      let s : Sound (holds (v .default) (v .threshold) (v .window) []) = rw e at (sound-storm (sound-fresh Port (v .default)) (v .threshold) (v .window)) in
-      all-added (v .default) (v .threshold) (v .window) [] (v .rules) p s brief-none (let q : length (v .rules) ≤ 32 = x .1 .1 .1 in omega arith) (f .0 .1 .1)
+      let x = f .0 .0 .1 .1 .1 in
+      let e = storm-is (v .matching) (v .default) (v .threshold) (v .window) (x .0 .0) (x .0 .1) (x .1 .0 .0) (x .1 .0 .1) in
+      let p : P (holds (v .matching) (v .default) (v .threshold) (v .window) []) =
+      rw e at (set-storm (fresh (v .matching) (v .default)) (make (v .matching) (v .default)) (v .threshold) (v .window)) in
+      let s : Sound (holds (v .matching) (v .default) (v .threshold) (v .window) []) = rw e at (sound-storm (sound-fresh (v .matching) (v .default)) (v .threshold) (v .window)) in
+      all-added (v .matching) (v .default) (v .threshold) (v .window) [] (v .rules) p s brief-none (let q : length (v .rules) ≤ 32 = x .1 .1 .1 in omega arith) (f .0 .1 .1)

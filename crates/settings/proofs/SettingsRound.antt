@@ -1,36 +1,55 @@
 -- Settings there and back, over whole texts: what is written of settings that fit is read as them, and a text that is taken is what is written of its settings. Assumes nothing.
-use Prim.Native.Nat.{ℕ, _≤_, _<_}
+use Prim.Native.Nat.{ℕ, zero, suc, _≤_, _<_}
 use mathlib.Core.Path.{_≡_, refl, sym}
 use mathlib.Core.List.{List}
 use native.Mathlib.Omega.{arith}
 use lib.Dec.{eqb}
 use lib.ListN.{length}
 use Rattle.laws.specs.Lists.{every}
-use Rattle.laws.proofs.Cases.{by}
+use Rattle.laws.proofs.Cases.{by, whichever}
 use Rattle.slices.specs.Bytes.{bytes, same}
+use Rattle.topics.specs.declared.matching.Matching.the-variants.{Port}
 use Rattle.lines.specs.ReadWord.{wordIndex, different}
 use Rattle.lines.specs.Word.{firstWord, restWords}
 use Rattle.forms.specs.Form.{took, Round, wordForm, pairForm, manyForm}
-use Rattle.forms.proofs.FormRound.{number-round, word-round, pair-round, map-round, many-round, numbered-round, whole-there, whole-back}
-use Rattle.forms.proofs.RealLaws.{Real, RealTook, number-real, word-real, pair-real, map-real, numbered-real, many-real, whole-real}
+use Rattle.forms.proofs.FormRound.{number-round, word-round, none-round, pair-round, map-round, many-round, numbered-round, whole-there, whole-back}
+use Rattle.forms.proofs.RealLaws.{Refusal, Real, RealTook, number-real, word-real, none-real, pair-real, map-real, numbered-real, many-real, whole-real}
 use Rattle.rules_text.specs.RuleText.{ruleForm}
 use Rattle.rules_text.proofs.RuleRound.{action-round, rule-round, action-real, rule-real}
-use Rattle.settings.specs.SettingsText.{Settings, formPlace, formAt, formNumber, formForm, bodyIn, headLines, rulesAfter, Lines, settingsLines, settingsFrom, linesOf, settingsForm, settingsOf}
+use Rattle.settings.specs.SettingsText.{Settings, formPlace, formAt, formNumber, formAmong, formForm, matchingNumber, matchingAt, matchIn, bodyIn, headLines}
+use Rattle.settings.specs.SettingsText.{rulesAfter, Lines, settingsLines, settingsFrom, linesOf, settingsForm, settingsOf}
 
-place-back : (k : ℕ) → k < 1 → formPlace (formAt k) ≡ k
+-- the places of words and what they stand for
+place-back : (k : ℕ) → k < 2 → formPlace (formAt k) ≡ k
 place-back k h = omega arith
 
+matching-at : (k : ℕ) → k < 2 → matchingNumber (matchingAt k) ≡ k
+matching-at zero h = refl
+matching-at (suc zero) h = refl
+matching-at (suc (suc k)) h = absurd (omega arith)
+
 form-round : Round formForm
-unfolding formForm wordForm every firstWord restWords different wordIndex same
-form-round = numbered-round _ _ (map-round formAt formPlace (wordForm (bytes "form=") (bytes "1")) place-back (word-round (bytes "form=") (bytes "1") refl refl refl))
+unfolding formForm formAmong wordForm every firstWord restWords different wordIndex same
+form-round = numbered-round _ _ (map-round formAt formPlace (wordForm (bytes "form=") (bytes "1|2")) place-back (word-round (bytes "form=") (bytes "1|2") refl refl refl))
+
+match-round : (form : ℕ) → Round (matchIn form)
+unfolding matchIn wordForm every firstWord restWords different wordIndex same
+match-round form =
+    by (eqb form 2)
+    (λ t.
+    rw t
+    (map-round matchingAt matchingNumber (wordForm (bytes "match=") (bytes "port|standard")) matching-at (word-round (bytes "match=") (bytes "port|standard") refl refl refl)))
+    (λ t. rw t (none-round Port))
 
 body-round : (form : ℕ) → Round (bodyIn form)
 unfolding bodyIn every
 body-round form =
     pair-round _ _ (action-round (bytes "default=") refl)
     (λ d.
+    pair-round _ _ (match-round form)
+    (λ m.
     pair-round _ _ (number-round (bytes "threshold=") 2 16 refl)
-    (λ t. pair-round _ _ (number-round (bytes "window=") 1000000 600000000 refl) (λ w. number-round (bytes "rules=") 0 32 refl)))
+    (λ t. pair-round _ _ (number-round (bytes "window=") 1000000 600000000 refl) (λ w. number-round (bytes "rules=") 0 32 refl))))
 
 pub head-round : Round headLines
 unfolding headLines
@@ -59,31 +78,41 @@ pub settings-back : (s : List ℕ) {v : Settings} {p l : ℕ} → settingsOf s �
 unfolding settingsOf
 settings-back s e = let b = whole-back settingsForm settings-round s e in (sym (b .0), b .1)
 
--- what stops a reader has a number
-number-kept : (n : ℕ) → formNumber n ≡ 0 → n ≡ 0
-number-kept n = by (eqb n 23) (λ t. rw t (λ z. absurd (omega arith))) (λ t. rw t (λ z. z))
+-- what stops a reader has a number up to 36
+number-kept : (n : ℕ) → Refusal 36 n → Refusal 36 (formNumber n)
+number-kept n h = whichever (Refusal 36) (eqb n 23) ((λ z. omega arith), omega arith) h
 
-body-real : (form : ℕ) → Real (bodyIn form)
+line : 26 ≤ 36
+line = omega arith
+
+match-real : (form : ℕ) → Real 36 (matchIn form)
+unfolding matchIn
+match-real form =
+    by (eqb form 2) (λ t. rw t (map-real _ _ _ (word-real line (bytes "match=") (bytes "port|standard")))) (λ t. rw t (none-real Port))
+
+body-real : (form : ℕ) → Real 36 (bodyIn form)
 unfolding bodyIn
 body-real form =
-    pair-real _ _ (action-real (bytes "default="))
+    pair-real _ _ (action-real line (bytes "default="))
     (λ d.
-    pair-real _ _ (number-real (bytes "threshold=") 2 16)
-    (λ t. pair-real _ _ (number-real (bytes "window=") 1000000 600000000) (λ w. number-real (bytes "rules=") 0 32)))
+    pair-real _ _ (match-real form)
+    (λ m.
+    pair-real _ _ (number-real line (bytes "threshold=") 2 16)
+    (λ t. pair-real _ _ (number-real line (bytes "window=") 1000000 600000000) (λ w. number-real line (bytes "rules=") 0 32))))
 
-pub head-real : Real headLines
-unfolding headLines formForm
-head-real = pair-real _ _ (numbered-real formNumber _ number-kept (map-real _ _ _ (word-real (bytes "form=") (bytes "1")))) body-real
+pub head-real : Real 36 headLines
+unfolding headLines formForm formAmong
+head-real = pair-real _ _ (numbered-real formNumber _ number-kept (map-real _ _ _ (word-real line (bytes "form=") (bytes "1|2")))) body-real
 
-pub rules-real : (k : ℕ) → Real (manyForm ruleForm k)
-rules-real k = many-real ruleForm rule-real k
+pub rules-real : (k : ℕ) → Real 36 (manyForm ruleForm k)
+rules-real k = many-real ruleForm (rule-real (omega arith)) k
 
 -- what stops the lines has a number
-form-real : Real settingsForm
+form-real : Real 36 settingsForm
 unfolding settingsForm settingsLines
 form-real = map-real _ _ _ (pair-real _ _ head-real (λ h. rules-real (rulesAfter h)))
 
 -- and so has what refuses a whole text
-pub settings-real : (s : List ℕ) → RealTook (settingsOf s)
+pub settings-real : (s : List ℕ) → RealTook 36 (settingsOf s)
 unfolding settingsOf
-settings-real s = whole-real settingsForm form-real s
+settings-real s = whole-real settingsForm (omega arith) form-real s

@@ -1,2 +1,3 @@
 mod GivenLaws
 pub mod TellLaws
+pub mod TurnLaws

@@ -3,6 +3,7 @@
 use mathlib.Core.List.{List}
 use Prim.Native.Nat.{ℕ}
 use lib.ListN.{length, replicate}
+use Rattle.topics.specs.declared.matching.Matching.the-variants.{Port}
 use Rattle.forms.specs.Form.{Took, took, stopped}
 use Rattle.tables.specs.Rules.{emptyRule}
 use Rattle.tables.specs.declared.rules.TopicAction.the-variants.{Allow, Block}
@@ -22,12 +23,13 @@ headOf (took h p l) =
       next = p;
       form = h .0;
       «default_action» = h .1 .0;
-      threshold = h .1 .1 .0;
-      window = h .1 .1 .1 .0;
-      rules = h .1 .1 .1 .1;
+      matching = h .1 .1 .0;
+      threshold = h .1 .1 .1 .0;
+      window = h .1 .1 .1 .1 .0;
+      rules = h .1 .1 .1 .1 .1;
     }
 headOf (stopped n l) =
-    record { number = n; line = l; next = 0; form = 0; «default_action» = Allow; threshold = 0; window = 0; rules = 0 }
+    record { number = n; line = l; next = 0; form = 0; «default_action» = Allow; matching = Port; threshold = 0; window = 0; rules = 0 }
 
 -- the rules
 abbrev pub rulesStopped : ℕ → ℕ → RulesLines
@@ -45,6 +47,7 @@ notRead number line =
       line = line;
       form = 0;
       «default_action» = Block;
+      matching = Port;
       threshold = 5;
       window = 60000000;
       «rules_from» = 0;
@@ -59,6 +62,7 @@ settingsRead from (took v p l) =
       line = l;
       form = v .form;
       «default_action» = v .default;
+      matching = v .matching;
       threshold = v .threshold;
       window = v .window;
       «rules_from» = from;

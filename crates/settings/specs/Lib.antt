@@ -1,5 +1,6 @@
 pub mod Convert
 pub mod Head
+pub mod HomeAgain
 pub mod Kept
 pub mod Loaded
 pub mod OneToOne

@@ -16,7 +16,7 @@ use Rattle.rules_text.specs.RuleText.{RuleText, ruleIn}
 use Rattle.monitor.specs.Calls.{fresh}
 use Rattle.monitor.specs.State.{wellFormed, withRules, withSettings}
 use Rattle.monitor.specs.declared.state.MqttMonitor.{MqttMonitor}
-use Rattle.settings.specs.SettingsText.{Settings, isForm, settingsForm}
+use Rattle.settings.specs.SettingsText.{Settings, formRefusal, settingsForm}
 use Rattle.settings.specs.declared.load.LoadedSettings.{LoadedSettings}
 use Rattle.settings.specs.declared.write.Written.{Written}
 
@@ -28,6 +28,7 @@ settingsIn form m =
     record {
       form = form;
       default = m .«default_action»;
+      matching = m .matching;
       threshold = m .«connect_storm_threshold»;
       window = m .«connect_storm_window_us»;
       rules = map ruleIn (take (m .«rule_count») (m .rules));
@@ -37,9 +38,9 @@ settingsIn form m =
 unfoldable pub settingsText : ℕ → MqttMonitor → List ℕ
 settingsText form m = settingsForm .text (settingsIn form m)
 
--- the number that refuses a text of a monitor in a form: 10 first, then 29 for a form that is not known
+-- the number that refuses a text of a monitor in a form: 10 first, then 29 for a form that is not known, or 37 for one that has no word for its matcher
 unfoldable pub textRefusal : ℕ → MqttMonitor → ℕ
-textRefusal form m = cond (wellFormed m) (cond (isForm form) 0 29) 10
+textRefusal form m = cond (wellFormed m) (formRefusal form (m .matching)) 10
 
 -- a refusal: nothing is written
 abbrev pub unwritten : ℕ → Written
@@ -71,10 +72,10 @@ ruleHeld r = ruleOf (r .pattern) (r .action) (r .policy) (r .rate)
 abbrev pub tableOf : List RuleText → List TopicRule
 tableOf rs = map ruleHeld rs ++ replicate (32 - length rs) emptyRule
 
--- a fresh monitor with some settings. It matches as the Rust does: a text does not say how (until request C-18)
+-- a fresh monitor with some settings
 unfoldable pub monitorOf : Settings → MqttMonitor
 monitorOf v =
-    withSettings (withRules (fresh Port (v .default)) (tableOf (v .rules)) (length (v .rules))) (v .threshold) (v .window)
+    withSettings (withRules (fresh (v .matching) (v .default)) (tableOf (v .rules)) (length (v .rules))) (v .threshold) (v .window)
 
 -- what a load hands back: the monitor, the form of its text and the last line; or number and line, beside a fresh monitor that denies all
 unfoldable pub loadedOf : Took Settings → LoadedSettings
@@ -84,6 +85,7 @@ loadedOf (stopped n l) = record { number = n; line = l; form = 0; monitor = fres
 -- the settings of two monitors are the same, field by field
 pub record SameSettings (a b : MqttMonitor) : Type 0 where
   pub default-same : a .«default_action» ≡ b .«default_action»
+  pub matching-same : a .matching ≡ b .matching
   pub threshold-same : a .«connect_storm_threshold» ≡ b .«connect_storm_threshold»
   pub window-same : a .«connect_storm_window_us» ≡ b .«connect_storm_window_us»
   pub count-same : a .«rule_count» ≡ b .«rule_count»

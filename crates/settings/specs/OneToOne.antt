@@ -1,10 +1,10 @@
--- What is claimed of settings and their text (request C-13). Both laws are over whole texts. The proofs are in proofs/OneToOne.antt. How a monitor matches is not yet one of its settings (request
--- C-18): what is written of one that matches by the standard loads to one that matches as the Rust does.
+-- What is claimed of settings and their text (requests C-13 and C-18). Both laws are over whole texts. The proofs are in proofs/OneToOne.antt.
 -- Assumes nothing.
-use mathlib.Core.Bool.{true}
+use mathlib.Core.Bool.{cond}
 use mathlib.Core.List.{List}
 use mathlib.Core.Path.{_≡_}
 use Prim.Native.Nat.{ℕ, _≤_}
+use lib.Dec.{eqb}
 use lib.ListN.{length}
 use lib.Seq.{sets}
 use Rattle.forms.specs.Form.{took}
@@ -15,7 +15,7 @@ use Rattle.monitor.specs.Sound.{Sound}
 use Rattle.monitor.specs.declared.state.MqttMonitor.{MqttMonitor}
 use Rattle.settings.specs.Convert.{convertEnd, convertKept}
 use Rattle.settings.specs.Loaded.{settingsText, writtenOf, textKept, monitorOf, loadedOf, SameSettings}
-use Rattle.settings.specs.SettingsText.{Settings, isForm, settingsForm, settingsOf}
+use Rattle.settings.specs.SettingsText.{Settings, formRefusal, settingsForm, settingsOf}
 
 -- a text is accepted: it has these settings, and this is its last line
 abbrev pub Accepted : List ℕ → Settings → ℕ → Type 0
@@ -26,13 +26,17 @@ pub record LoadsTo (s : List ℕ) (m : MqttMonitor) : Type 0 where
   pub number : loadedOf (settingsOf s) .number ≡ 0
   pub same : SameSettings (loadedOf (settingsOf s) .monitor) m
 
+-- how long the longest text of a form is
+abbrev pub longestIn : ℕ → ℕ
+longestIn form = cond (eqb form 2) 5547 5532
+
 pub record OneToOne : Type 0 where
-  -- what is written of any state that calls handed out, in any form that is known, loads to a monitor with the same settings; its numbers are within their types, as those of every value of the
-  -- code are
-  pub written-loads : (form : ℕ) (m : MqttMonitor) → isForm form ≡ true → Reached m → Ranged m → LoadsTo (settingsText form m) m
-  -- it is written, too: number 10 is never met there, and 5,532 bytes are always room for it
+  -- what is written of any state that calls handed out, in any form that is known and has a word for its matcher, loads to a monitor with the same settings; its numbers are within their types, as
+  -- those of every value of the code are
+  pub written-loads : (form : ℕ) (m : MqttMonitor) → formRefusal form (m .matching) ≡ 0 → Reached m → Ranged m → LoadsTo (settingsText form m) m
+  -- it is written, too: number 10 is never met there, and as many bytes as the form's longest text has are always room for it
   pub is-written :
-      (form : ℕ) (m : MqttMonitor) (d : List ℕ) → isForm form ≡ true → Reached m → Ranged m → 5532 ≤ length d
+      (form : ℕ) (m : MqttMonitor) (d : List ℕ) → formRefusal form (m .matching) ≡ 0 → Reached m → Ranged m → longestIn form ≤ length d
       → (writtenOf form m (length d) ≡ record { number = 0; length = length (settingsText form m) }) × (textKept form m d ≡ sets d 0 (settingsText form m))
   -- any accepted text is written back byte for byte, in its own form, from the monitor that it loads to
   pub loaded-written : (s : List ℕ) {v : Settings} {line : ℕ} → Accepted s v line → settingsText (v .form) (monitorOf v) ≡ s
@@ -41,8 +45,8 @@ pub record OneToOne : Type 0 where
   pub a-text : (v : Settings) → settingsForm .fits v → Accepted (settingsForm .text v) v (settingsForm .count v)
   -- a text that is loaded at all is accepted: nothing of it is left over
   pub whole : (s : List ℕ) {v : Settings} {place line : ℕ} → settingsOf s ≡ took v place line → Accepted s v line
-  -- none is longer than 5,532 bytes
-  pub longest : (s : List ℕ) {v : Settings} {line : ℕ} → Accepted s v line → length s ≤ 5532
+  -- none of form 1 is longer than 5,532 bytes, and none of form 2 than 5,547
+  pub longest : (s : List ℕ) {v : Settings} {line : ℕ} → Accepted s v line → length s ≤ longestIn (v .form)
   -- `convert_settings`, asked for a text's own form, hands an accepted text back as it is, where there is room for it
   pub given-back :
       (s d : List ℕ) {v : Settings} {line : ℕ} → Accepted s v line → length s ≤ length d

@@ -2,7 +2,6 @@
 use crate::read::read_settings;
 use monitor::calls::fresh;
 use monitor::state::MqttMonitor;
-use topics::matching::Matching;
 ghost use mathlib.Core.Path.{_≡_};
 ghost use Rattle.settings.specs.Loaded.{loadedOf};
 ghost use Rattle.settings.specs.SettingsText.{settingsOf};
@@ -15,15 +14,16 @@ pub struct LoadedSettings {
     pub monitor: MqttMonitor,
 }
 
-// No monitor is taken: whoever has one keeps it until this one is there. It matches as the Rust does, since a text does not say how. What was read of a refused text is what a fresh monitor has that
-// denies all, so that there is one way here and one monitor on the stack.
+// No monitor is taken: whoever has one keeps it until this one is there. What was read of a refused text is what a fresh monitor has that denies all, so that there is one way here and one monitor on
+// the stack.
 pub fn load_settings(text: &[u8]) -> LoadedSettings
     ensures { λ r. ⌜ r ≡ loadedOf (settingsOf (now (text .entry))) ⌝ }
 {
     let found = read_settings(text);
+    let matching = found.matching;
     let default_action = found.default_action;
     let rules = found.rules;
-    let mut m = fresh(Matching::Port, default_action);
+    let mut m = fresh(matching, default_action);
     m.rules = rules;
     m.rule_count = found.rule_count;
     m.connect_storm_threshold = found.threshold;

@@ -6,6 +6,7 @@ use monitor::state::free_rules;
 use tables::rules::RULES;
 use tables::rules::TopicAction;
 use tables::rules::TopicRule;
+use topics::matching::Matching;
 ghost use mathlib.Core.Path.{_≡_};
 ghost use Rattle.settings.specs.Kept.{notRead, readOf};
 
@@ -19,6 +20,7 @@ pub struct SettingsRead {
     pub line: u64,
     pub form: u32,
     pub default_action: TopicAction,
+    pub matching: Matching,
     pub threshold: u8,
     pub window: u64,
     pub rules_from: usize,
@@ -36,6 +38,7 @@ fn not_read(number: u32, line: u64) -> SettingsRead
         line,
         form: 0,
         default_action: TopicAction::Block,
+        matching: Matching::Port,
         threshold: 5,
         window: 60000000,
         rules_from: 0,
@@ -64,12 +67,14 @@ pub fn read_settings(text: &[u8]) -> SettingsRead
         return not_read(end, found.line + 1);
     }
     let default_action = head.default_action;
+    let matching = head.matching;
     let rules = found.rules;
     SettingsRead {
         number: 0,
         line: found.line,
         form: head.form,
         default_action,
+        matching,
         threshold: head.threshold,
         window: head.window,
         rules_from: head.next,

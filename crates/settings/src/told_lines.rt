@@ -1,4 +1,5 @@
 // The lines that tell a person what a settings text sets. Each writer also says how long its lines are at most, so that there is room for all of them.
+use crate::matcher::matching_number;
 use lines::put::put_bytes;
 use lines::put::put_decimal;
 use lines::put::put_hex_line;
@@ -14,6 +15,7 @@ use tables::rules::TopicRule;
 use tables::rules::action_number;
 use tables::rules::policy_number;
 use tables::rules::used;
+use topics::matching::Matching;
 ghost use mathlib.Core.Path.{_≡_};
 ghost use mathlib.Core.List.{map};
 ghost use Prim.Native.Nat.{_*_, _≤_};
@@ -52,14 +54,16 @@ pub(crate) fn put_head_told(
     at: usize,
     form: u32,
     default_action: TopicAction,
+    matching: Matching,
     threshold: u8,
     window: u64,
     rules: u16,
 ) -> usize
-    ensures text { λ r. ⌜ Wrote (now (out .entry)) (now (out .exit)) at (headTold form «default_action» threshold window rules) r ⌝ }
-    ensures short { λ _. ⌜ length (headTold form «default_action» threshold window rules) ≤ 340 ⌝ }
+    ensures text { λ r. ⌜ Wrote (now (out .entry)) (now (out .exit)) at (headTold form «default_action» matching threshold window rules) r ⌝ }
+    ensures short { λ _. ⌜ length (headTold form «default_action» matching threshold window rules) ≤ 390 ⌝ }
 {
     let action = action_number(default_action) as usize;
+    let matcher = matching_number(matching) as usize;
     let after_form = put_number_line(out, at, b"A settings text of form ", form as u64);
     let after_default = put_word_line(
         out,
@@ -68,7 +72,14 @@ pub(crate) fn put_head_told(
         b"allowed|blocked",
         action,
     );
-    let after_connect = put_connect(out, after_default, threshold, window);
+    let after_matching = put_word_line(
+        out,
+        after_default,
+        b"Rules match ",
+        b"as in the Rust original (port)|as MQTT 3.1.1 says (standard)",
+        matcher,
+    );
+    let after_connect = put_connect(out, after_matching, threshold, window);
     put_number_line(
         out,
         after_connect,

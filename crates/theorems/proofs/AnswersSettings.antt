@@ -13,6 +13,8 @@ use Rattle.settings.proofs.convert.convert_settings as convert-convert-settings
 use Rattle.settings.proofs.convert.convert_settings.Reads as convert-convert-settings-reads
 use Rattle.settings.proofs.told.tell_settings as told-tell-settings
 use Rattle.settings.proofs.told.tell_settings.Reads as told-tell-settings-reads
+use Rattle.settings.proofs.told.turn_settings as told-turn-settings
+use Rattle.settings.proofs.told.turn_settings.Reads as told-turn-settings-reads
 use Rattle.theorems.specs.One.{Any, One, OneLeft}
 
 pub one-read-read-settings : One read-read-settings.ended read-read-settings-reads.Post
@@ -50,3 +52,9 @@ one-told-tell-settings κs a x y e f p q = (p .0 ∙ sym (q .0), p .1 .0 ∙ sym
 
 pub any-told-tell-settings : Any told-tell-settings.ended told-tell-settings-reads.Asked
 any-told-tell-settings κs a = tt
+
+pub one-told-turn-settings : OneLeft told-turn-settings.ended told-turn-settings-reads.Post (λ κs e. now (e .1 .1 .0))
+one-told-turn-settings κs a x y e f p q = (p .0 ∙ sym (q .0), p .1 .0 ∙ sym (q .1 .0))
+
+pub any-told-turn-settings : Any told-turn-settings.ended told-turn-settings-reads.Asked
+any-told-turn-settings κs a = tt

@@ -1,5 +1,6 @@
 -- Settings that come back (specs/Settings.antt): a loaded monitor is a fresh one with its rules, so that what holds from every such monitor holds from it. Assumes nothing.
 use Rattle.settings.specs.Loaded.{monitorOf}
+use Rattle.settings.proofs.HomeAgain.{home-again}
 use Rattle.settings.proofs.OneToOne.{one-to-one, made-by-calls}
 use Rattle.theorems.specs.Settings.{SavedSettings}
 use Rattle.theorems.proofs.Shipped.{shipped-meets}
@@ -8,6 +9,7 @@ pub saved-settings : SavedSettings
 saved-settings =
     record {
       one-to-one = one-to-one;
+      home-again = home-again;
       made = made-by-calls;
       limits =
           record {

@@ -1,10 +1,9 @@
--- A text loaded and written back: its own refusal (`convert-refused`), that of the writing (`convert-unwritten`), or the text that is written (`convert-written`), each with the lent buffer then.
+-- A text loaded and written back: its own refusal (`convert-refused`), or the end of the writing (`convert-ends`), each with the lent buffer then.
 -- Assumes nothing.
 use Prim.Native.Nat.{ℕ}
 use mathlib.Core.Path.{_≡_, refl}
 use mathlib.Core.List.{List}
 use lib.ListN.{length}
-use borrow.Author.Tests.{eq-eqb, ne-eqb}
 use Rattle.forms.specs.Form.{Took, took, stopped}
 use Rattle.forms.proofs.RealLaws.{RealTook}
 use Rattle.settings.specs.Convert.{formMeant, endAt, convertedEnd, convertEnd, convertedKept, convertKept}
@@ -23,12 +22,12 @@ module _ (form : ℕ) (d : List ℕ) where
   refused (stopped n l) e z = (rw e, refl)
 
   -- one that is taken: what the writing of its monitor gives
-  taken : (t : Took Settings) → RealTook t → {x : LoadedSettings} → x ≡ loadedOf t → x .number ≡ 0
+  taken : (t : Took Settings) → RealTook 36 t → {x : LoadedSettings} → x ≡ loadedOf t → x .number ≡ 0
       → (endAt (x .line) (writtenOf (formMeant form (x .form)) (x .monitor) (length d)) ≡ convertedEnd form (length d) t)
       × (textKept (formMeant form (x .form)) (x .monitor) d ≡ convertedKept form d t)
   unfolding loadedOf convertedEnd convertedKept
   taken (took v p l) r e z = (rw e, rw e)
-  taken (stopped n l) r e z = absurd (r n l refl (rw e at z))
+  taken (stopped n l) r e z = absurd (r n l refl .0 (rw e at z))
 
   module _ (s : List ℕ) {x : LoadedSettings} (e : x ≡ loadedOf (settingsOf s)) where
     -- the text is refused
@@ -41,18 +40,6 @@ module _ (form : ℕ) (d : List ℕ) where
     module _ {g : ℕ} {w : Written} {b : List ℕ} (z : x .number ≡ 0) (m : g ≡ formMeant form (x .form))
         (v : (w ≡ writtenOf g (x .monitor) (length d)) × (b ≡ textKept g (x .monitor) d)) where
       -- the end is that of the writing, at the last line of the text, and the buffer is what the writing left
-      ends : (endAt (x .line) w ≡ convertEnd form (length d) s) × (b ≡ convertKept form d s)
+      pub convert-ends : (endAt (x .line) w ≡ convertEnd form (length d) s) × (b ≡ convertKept form d s)
       unfolding convertEnd convertKept
-      ends = let t = taken (settingsOf s) (settings-real s) e z in (rw (v .0, m) (t .0), rw (v .1, m) (t .1))
-
-      -- the writing is refused
-      pub convert-unwritten : (w .number ≡ 0 → ⊥)
-          → (record { number = w .number; line = 0; length = 0 } ≡ convertEnd form (length d) s) × (b ≡ convertKept form d s)
-      unfolding endAt
-      convert-unwritten n = (rw (ne-eqb (w .number) 0 n) at (ends .0), ends .1)
-
-      -- the text is written
-      pub convert-written : w .number ≡ 0
-          → (record { number = 0; line = x .line; length = w .length } ≡ convertEnd form (length d) s) × (b ≡ convertKept form d s)
-      unfolding endAt
-      convert-written n = (rw (eq-eqb (w .number) 0 n) at (ends .0), ends .1)
+      convert-ends = let t = taken (settingsOf s) (settings-real s) e z in (rw (v .0, m) (t .0), rw (v .1, m) (t .1))

@@ -2,7 +2,6 @@
 use Prim.Native.Nat.{ℕ}
 use mathlib.Core.Path.{_≡_}
 use mathlib.Core.List.{List}
-use Rattle.topics.specs.declared.matching.Matching.the-variants.{Port}
 use Rattle.forms.specs.Form.{Took, took, stopped}
 use Rattle.monitor.specs.Calls.{fresh}
 use Rattle.monitor.specs.State.{withRules, withSettings}
@@ -19,7 +18,7 @@ loadedAs x =
       number = x .number;
       line = x .line;
       form = x .form;
-      monitor = withSettings (withRules (fresh Port (x .«default_action»)) (x .rules) (x .«rule_count»)) (x .threshold) (x .window);
+      monitor = withSettings (withRules (fresh (x .matching) (x .«default_action»)) (x .rules) (x .«rule_count»)) (x .threshold) (x .window);
     }
 
 by-read : (from : ℕ) (t : Took Settings) {x : SettingsRead} → x ≡ settingsRead from t → loadedAs x ≡ loadedOf t

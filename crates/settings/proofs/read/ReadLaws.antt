@@ -7,15 +7,17 @@ use native.Mathlib.Omega.{arith}
 use lib.Dec.{eqb}
 use lib.ListN.{length}
 use borrow.Author.Tests.{eq-eqb, ne-eqb, le-leb, lt-leb}
+use Rattle.laws.proofs.Cases.{by}
+use Rattle.topics.specs.declared.matching.Matching.{Matching}
 use Rattle.lines.specs.Field.{textEnd}
-use Rattle.forms.specs.Form.{Took, took, stopped, onTook, numberForm, wordForm, pairForm, mapForm, numberedForm, manyForm, readAll, ended, wholeOf}
+use Rattle.forms.specs.Form.{Took, took, stopped, onTook, numberForm, wordForm, noneForm, pairForm, mapForm, numberedForm, manyForm, readAll, ended, wholeOf}
 use Rattle.forms.proofs.FormRound.{many-round}
 use Rattle.forms.proofs.RealLaws.{RealTook}
 use Rattle.rules_text.specs.RuleText.{RuleText, actionForm, ruleForm}
 use Rattle.rules_text.proofs.RuleRound.{rule-round, rules-count}
 use Rattle.settings.specs.Kept.{headOf, rulesRead, notRead, settingsRead, rulesFrom, readOf}
 use Rattle.settings.specs.Loaded.{tableOf}
-use Rattle.settings.specs.SettingsText.{Head, formForm, bodyIn, headLines, rulesAfter, settingsFrom, settingsLines, settingsForm, settingsOf}
+use Rattle.settings.specs.SettingsText.{Head, formAmong, formForm, matchIn, bodyIn, headLines, rulesAfter, settingsFrom, settingsLines, settingsForm, settingsOf}
 use Rattle.settings.specs.declared.head.HeadLines.{HeadLines}
 use Rattle.settings.specs.declared.read.SettingsRead.{SettingsRead}
 use Rattle.settings.specs.declared.rules.RulesLines.{RulesLines}
@@ -23,32 +25,36 @@ use Rattle.settings.proofs.SettingsRound.{head-round, head-real, rules-
 
 -- the values of the lines before the rules, as the code has them
 abbrev headIn : HeadLines → Head
-headIn h = (h .form, (h .«default_action», (h .threshold, (h .window, h .rules))))
+headIn h = (h .form, (h .«default_action», (h .matching, (h .threshold, (h .window, h .rules)))))
 
 -- what the code has of those lines says what the form read
-head-known : (t : Took Head) → RealTook t → {h : HeadLines} → h ≡ headOf t
+head-known : (t : Took Head) → RealTook 36 t → {h : HeadLines} → h ≡ headOf t
     → t ≡ cond (eqb (h .number) 0) (took (headIn h) (h .next) (h .line)) (stopped (h .number) (h .line))
 unfolding headOf
 head-known (took x p l) r e = rw e
-head-known (stopped n l) r e = rw (e, ne-eqb n 0 (r n l refl))
+head-known (stopped n l) r e = rw (e, ne-eqb n 0 (r n l refl .0))
 
 -- and so of the rules, by whether they were read
-rules-known : (t : Took (List RuleText)) → RealTook t → {r : RulesLines} → r ≡ rulesRead t → {P : Type 0}
+rules-known : (t : Took (List RuleText)) → RealTook 36 t → {r : RulesLines} → r ≡ rulesRead t → {P : Type 0}
     → ((rs : List RuleText) → r .number ≡ 0 → t ≡ took rs (r .next) (r .line) → r .rules ≡ tableOf rs → r .«rule_count» ≡ length rs → P)
     → ((r .number ≡ 0 → ⊥) → t ≡ stopped (r .number) (r .line) → P) → P
 unfolding rulesRead
 rules-known (took rs p l) k e f g = f rs (rw e) (rw e) (rw e) (rw e)
-rules-known (stopped n l) k e f g = g (rw e (k n l refl)) (rw e)
+rules-known (stopped n l) k e f g = g (rw e (k n l refl .0)) (rw e)
 
--- five lines stand before the rules
-head-lines : (x : Head) → headLines .count x ≡ 5
-unfolding headLines bodyIn pairForm formForm numberedForm mapForm wordForm actionForm numberForm
-head-lines x = refl
+-- five or six lines stand before the rules
+match-lines : (form : ℕ) (m : Matching) → matchIn form .count m ≤ 1
+unfolding matchIn mapForm wordForm noneForm
+match-lines form m = by (eqb form 2) (λ t. rw t (omega arith)) (λ t. rw t (omega arith))
+
+head-lines : (x : Head) → headLines .count x ≤ 6
+unfolding headLines bodyIn pairForm formForm formAmong numberedForm mapForm wordForm actionForm numberForm
+head-lines x = omega (arith, match-lines (x .0) (x .1 .1 .0))
 
 -- at most 32 rules follow
 head-few : (x : Head) → headLines .fits x → rulesAfter x ≤ 32
 unfolding headLines bodyIn pairForm numberForm
-head-few x f = f .1 .1 .1 .1 .1
+head-few x f = f .1 .1 .1 .1 .1 .1
 
 -- a text that is too long
 pub read-long : (s : List ℕ) {x : SettingsRead} → 65536 < length s → x ≡ notRead 27 0 → x ≡ readOf s
@@ -71,8 +77,8 @@ module _ {s : List ℕ} {d : HeadLines} (b : Begun s d) where
   head-took : d .number ≡ 0 → headLines .read s 0 0 ≡ took (headIn d) (d .next) (d .line)
   head-took z = head-known (headLines .read s 0 0) (head-real s 0 0) (b .head) ∙ (rw (eq-eqb _ _ z))
 
-  -- then there are at most 32 rules, and five lines before them
-  pub head-bounds : d .number ≡ 0 → (d .rules ≤ 32) × (d .line ≡ 5)
+  -- then there are at most 32 rules, and at most six lines before them
+  pub head-bounds : d .number ≡ 0 → (d .rules ≤ 32) × (d .line ≤ 6)
   head-bounds z =
       let back = head-round .back s 0 0 (head-took z) in
       (head-few (headIn d) (back .1), omega (arith, back .2, head-lines (headIn d)))
@@ -126,6 +132,7 @@ module _ {s : List ℕ} {d : HeadLines} {r : RulesLines} (f : Followed s d r) wh
         line = r .line;
         form = d .form;
         «default_action» = d .«default_action»;
+        matching = d .matching;
         threshold = d .threshold;
         window = d .window;
         «rules_from» = d .next;
@@ -139,8 +146,8 @@ module _ {s : List ℕ} {d : HeadLines} {r : RulesLines} (f : Followed s d r) wh
       (λ rs e t n y. rw (read-rules (took rs (r .next) (r .line)) e, onTook, ← w, eq-eqb _ _ m, settingsRead, t, n, rules-begin (f .begun)))
       (λ e y. absurd (y z))
 
-  -- a text has at most 133 lines
-  pub lines-few : r .number ≡ 0 → r .line ≤ 133
+  -- a text has at most 134 lines
+  pub lines-few : r .number ≡ 0 → r .line ≤ 134
   unfolding manyForm
   lines-few z =
       by-rules

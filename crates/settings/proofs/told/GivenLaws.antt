@@ -40,7 +40,7 @@ held-rules (fit-more {before = before} {a = a} {rest = rest} f g) = rw (held-rul
 module _ (v : Settings) (f : settingsForm .fits v) where
   fits-few : length (v .rules) ≤ 32
   unfolding settingsForm mapForm settingsLines pairForm headLines bodyIn numberForm
-  fits-few = f .0 .0 .1 .1 .1 .1 .1
+  fits-few = f .0 .0 .1 .1 .1 .1 .1 .1
 
   fits-back : map ruleIn (take (length (v .rules)) (tableOf (v .rules))) ≡ v .rules
   unfolding settingsForm mapForm settingsLines pairForm manyForm
@@ -52,12 +52,12 @@ pub record Given (s : List ℕ) (r : SettingsRead) : Type 0 where
   pub settings : settingsOf s ≡ took (settingsGiven r) place (r .line)
   pub few : r .«rule_count» ≤ 32
 
-given-from : (s : List ℕ) (from : ℕ) (t : Took Settings) → RealTook t → settingsOf s ≡ t → {r : SettingsRead} → r ≡ settingsRead from t → r .number ≡ 0 → Given s r
+given-from : (s : List ℕ) (from : ℕ) (t : Took Settings) → RealTook 36 t → settingsOf s ≡ t → {r : SettingsRead} → r ≡ settingsRead from t → r .number ≡ 0 → Given s r
 unfolding settingsRead
 given-from s from (took v p l) k e q z =
     let f = settings-back s e .1 in
     record { place = p; settings = rw (q, fits-back v f) e; few = rw q (fits-few v f) }
-given-from s from (stopped n l) k e q z = absurd (k n l refl (rw q at z))
+given-from s from (stopped n l) k e q z = absurd (k n l refl .0 (rw q at z))
 
 stopped-from : (s : List ℕ) (from : ℕ) (t : Took Settings) → settingsOf s ≡ t → {r : SettingsRead} → r ≡ settingsRead from t → (r .number ≡ 0 → ⊥)
     → settingsOf s ≡ stopped (r .number) (r .line)

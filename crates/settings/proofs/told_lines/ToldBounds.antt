@@ -8,6 +8,7 @@ use lib.ListN.{length, length-append}
 use Rattle.laws.specs.Lists.{every}
 use Rattle.slices.specs.Bytes.{bytes}
 use Rattle.topics.specs.Shown.{shown}
+use Rattle.topics.specs.declared.matching.Matching.{Matching}
 use Rattle.topics.proofs.shown.ShownLaws.{shown-length}
 use Rattle.lines.specs.Decimal.{decimal}
 use Rattle.lines.specs.Line.{numberLine, hexLine, wordLine, secondsLine}
@@ -19,7 +20,8 @@ use Rattle.tables.specs.Numbers.{actionNumber, policyNumber}
 use Rattle.tables.specs.declared.rules.QosPolicy.{QosPolicy}
 use Rattle.tables.specs.declared.rules.TopicAction.{TopicAction}
 use Rattle.rules_text.specs.RuleText.{RuleText}
-use Rattle.settings.specs.Told.{closingTold, connectTold, headTold, rateTold, rulingTold, patternTold, ruleTold}
+use Rattle.settings.specs.SettingsText.{matchingNumber}
+use Rattle.settings.specs.Told.{closingTold, connectTold, matchers, headTold, rateTold, rulingTold, patternTold, ruleTold}
 
 closing-length : (number line : ℕ) → length (closingTold number line) ≡ length (numberLine (bytes "end=") number) + length (numberLine (bytes "line=") line)
 unfolding closingTold
@@ -46,25 +48,27 @@ connect-short threshold window h g =
 abbrev pub policies : List ℕ
 policies = bytes ", any QoS|, alert below QoS 0|, alert below QoS 1|, alert below QoS 2|, alert unless QoS 0|, alert unless QoS 1|, alert unless QoS 2"
 
-module _ (form : ℕ) (default : TopicAction) (threshold window rules : ℕ) where
-  head-length : length (headTold form default threshold window rules)
+module _ (form : ℕ) (default : TopicAction) (matching : Matching) (threshold window rules : ℕ) where
+  head-length : length (headTold form default matching threshold window rules)
       ≡ length (numberLine (bytes "A settings text of form ") form) + length (wordLine (bytes "A topic that no rule matches is ") (bytes "allowed|blocked") (actionNumber default))
-      + length (connectTold threshold window) + length (numberLine (bytes "Rules, of which the first that matches decides: ") rules)
+      + length (wordLine (bytes "Rules match ") matchers (matchingNumber matching)) + length (connectTold threshold window) + length (numberLine (bytes "Rules, of which the first that matches decides: ") rules)
   unfolding headTold
   head-length = simp length-append
 
-  pub head-short : form < 2 ^ 32 → rules < 65536 → length (connectTold threshold window) ≤ 150 → length (headTold form default threshold window rules) ≤ 340
+  pub head-short : form < 2 ^ 32 → rules < 65536 → length (connectTold threshold window) ≤ 150 → length (headTold form default matching threshold window rules) ≤ 390
   unfolding every firstWord restWords
   head-short h g s =
       let a = decimal-20 form (omega (arith, h)) in
       let b = decimal-short 4 rules (omega (arith, g)) in
       let w = word-long (bytes "allowed|blocked") 7 refl (actionNumber default) in
+      let m = word-long matchers 30 refl (matchingNumber matching) in
       omega (
         arith,
         s,
         head-length,
         number-line-length (bytes "A settings text of form ") form,
         word-line-length (bytes "A topic that no rule matches is ") (bytes "allowed|blocked") (actionNumber default),
+        word-line-length (bytes "Rules match ") matchers (matchingNumber matching),
         number-line-length (bytes "Rules, of which the first that matches decides: ") rules,
       )
 

@@ -8,6 +8,7 @@ use native.Mathlib.Numerals.{add-one}
 use lib.ListN.{length, take, getD, length-append, length-map}
 use lib.Seq.{take-suc, length-take-le}
 use Rattle.slices.specs.Bytes.{bytes}
+use Rattle.topics.specs.declared.matching.Matching.{Matching}
 use Rattle.lines.specs.Decimal.{decimal}
 use Rattle.lines.specs.Line.{numberLine, wordLine}
 use Rattle.lines.specs.Word.{wordText}
@@ -19,15 +20,18 @@ use Rattle.tables.specs.declared.rules.QosPolicy.{QosPolicy}
 use Rattle.tables.specs.declared.rules.TopicAction.{TopicAction}
 use Rattle.tables.specs.declared.rules.TopicRule.{TopicRule}
 use Rattle.rules_text.specs.RuleText.{RuleText, ruleIn}
-use Rattle.settings.specs.Told.{connectTold, headTold, rateTold, rulingTold, patternTold, ruleTold, rulesTold}
+use Rattle.settings.specs.SettingsText.{matchingNumber}
+use Rattle.settings.specs.Told.{connectTold, matchers, headTold, rateTold, rulingTold, patternTold, ruleTold, rulesTold}
 use Rattle.settings.proofs.told_lines.ToldBounds.{policies, rule-short}
 
 module _ {d e f g h : List ℕ} {at w x y z a : ℕ} where
-  pub head-wrote : (form : ℕ) (default : TopicAction) (threshold window rules : ℕ) → a ≡ actionNumber default → Wrote d e at (numberLine (bytes "A settings text of form ") form) w
-      → Wrote e f w (wordLine (bytes "A topic that no rule matches is ") (bytes "allowed|blocked") a) x → Wrote f g x (connectTold threshold window) y
-      → Wrote g h y (numberLine (bytes "Rules, of which the first that matches decides: ") rules) z → Wrote d h at (headTold form default threshold window rules) z
+  pub head-wrote : {i : List ℕ} {b u : ℕ} (form : ℕ) (default : TopicAction) (matching : Matching) (threshold window rules : ℕ) → a ≡ actionNumber default → b ≡ matchingNumber matching
+      → Wrote d e at (numberLine (bytes "A settings text of form ") form) w
+      → Wrote e f w (wordLine (bytes "A topic that no rule matches is ") (bytes "allowed|blocked") a) x → Wrote f g x (wordLine (bytes "Rules match ") matchers b) y
+      → Wrote g h y (connectTold threshold window) z → Wrote h i z (numberLine (bytes "Rules, of which the first that matches decides: ") rules) u
+      → Wrote d i at (headTold form default matching threshold window rules) u
   unfolding headTold
-  head-wrote form default threshold window rules ea p q r s = rw (← ea) (wrote-then (wrote-then (wrote-then p q) r) s)
+  head-wrote form default matching threshold window rules ea eb p q r s t = rw (← ea, ← eb) (wrote-then (wrote-then (wrote-then (wrote-then p q) r) s) t)
 
   pub ruling-wrote : {b : ℕ} (place : ℕ) (action : TopicAction) (policy : QosPolicy) (rate : ℕ) → a ≡ actionNumber action → b ≡ policyNumber policy → Wrote d e at (decimal place) w
       → Wrote e f w (wordText (bytes ". allow|. block") a) x → Wrote f g x (wordText policies b) y → Wrote g h y (rateTold rate) z → Wrote d h at (rulingTold place action policy rate) z

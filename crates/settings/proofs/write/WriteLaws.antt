@@ -1,5 +1,5 @@
 -- What is written of a monitor's settings, and how long it is: the lines before the rules and then the rules (`settings-wrote`, `settings-sum`), the numbers that refuse a text (`not-formed`,
--- `not-known`), and the answer and the lent buffer for each way to end (`kept-refused`, `kept-short`, `kept-written`). Assumes nothing.
+-- `not-taken`), and the answer and the lent buffer for each way to end (`kept-refused`, `kept-short`, `kept-written`). Assumes nothing.
 use Prim.Native.Nat.{ℕ, _+_, _≤_, _<_}
 use mathlib.Core.Path.{_≡_, ap}
 use mathlib.Core.Bool.{true, false}
@@ -17,13 +17,13 @@ use Rattle.monitor.specs.State.{wellFormed}
 use Rattle.monitor.specs.declared.state.MqttMonitor.{MqttMonitor}
 use Rattle.monitor.proofs.state.FormedLaws.{formed-parts}
 use Rattle.settings.specs.Loaded.{settingsText, textRefusal, unwritten, lengthOf, fitted, writtenOf, textKept}
-use Rattle.settings.specs.SettingsText.{Head, headLines, settingsLines, settingsForm}
+use Rattle.settings.specs.SettingsText.{formRefusal, Head, headLines, settingsLines, settingsForm}
 use Rattle.settings.specs.declared.write.Written.{Written}
 
 module _ (form : ℕ) (m : MqttMonitor) where
   -- the values of the lines before the rules, and the text of the rules, as the code asks for them
   abbrev headIn : Head
-  headIn = (form, (m .«default_action», (m .«connect_storm_threshold», (m .«connect_storm_window_us», m .«rule_count»))))
+  headIn = (form, (m .«default_action», (m .matching, (m .«connect_storm_threshold», (m .«connect_storm_window_us», m .«rule_count»)))))
 
   abbrev rulesText : List ℕ
   rulesText = textAll ruleForm [] (map ruleIn (take (m .«rule_count») (m .rules)))
@@ -42,20 +42,20 @@ module _ (form : ℕ) (m : MqttMonitor) where
     pub settings-wrote : {d e g : List ℕ} {p r : ℕ} → Wrote d e 0 (headLines .text headIn) p → Wrote e g p rulesText r → Wrote d g 0 (settingsText form m) r
     settings-wrote v w = rw text-parts (wrote-then v w)
 
-    -- the sum of the code, where the form is known
-    pub settings-sum : {h r : ℕ} → form ≡ 1 → h ≡ length (headLines .text headIn) → r ≡ length rulesText → record { number = 0; length = h + r } ≡ lengthOf form m
+    -- the sum of the code, where the form is not refused
+    pub settings-sum : {n h r : ℕ} → n ≡ formRefusal form (m .matching) → n ≡ 0 → h ≡ length (headLines .text headIn) → r ≡ length rulesText → record { number = 0; length = h + r } ≡ lengthOf form m
     unfolding lengthOf textRefusal
-    settings-sum k eh er = rw (f, eq-eqb form 1 k, text-parts, eh, er) (simp length-append)
+    settings-sum en z eh er = rw (f, ← en, z, text-parts, eh, er) (simp length-append)
 
   -- 10: the monitor is not well formed
   pub not-formed : wellFormed m ≡ false → unwritten 10 ≡ lengthOf form m
   unfolding lengthOf textRefusal
   not-formed f = rw f
 
-  -- then 29: the form is not known
-  pub not-known : wellFormed m ≡ true → (form ≡ 1 → ⊥) → unwritten 29 ≡ lengthOf form m
+  -- then what refuses the form
+  pub not-taken : {n : ℕ} → wellFormed m ≡ true → n ≡ formRefusal form (m .matching) → (n ≡ 0 → ⊥) → unwritten n ≡ lengthOf form m
   unfolding lengthOf textRefusal
-  not-known f k = rw (f, ne-eqb form 1 k)
+  not-taken {n} f e k = rw (f, ← e, ne-eqb n 0 k)
 
   module _ {w : Written} (e : w ≡ lengthOf form m) where
     -- a monitor whose settings have a length is well formed

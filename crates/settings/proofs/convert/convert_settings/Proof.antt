@@ -1,6 +1,7 @@
--- `settings::convert::convert_settings` meets its contract: the text's own refusal, then that of the writing, each with nothing written; else the text that is written. Assumes nothing.
+-- `settings::convert::convert_settings` meets its contract: the text's own refusal, with nothing written; else what the writing gave. Assumes nothing.
 use denote.Ref.{now}
-use Rattle.settings.proofs.convert.ConvertLaws.{convert-refused, convert-unwritten, convert-written}
+use Rattle.settings.specs.Convert.{endAt}
+use Rattle.settings.proofs.convert.ConvertLaws.{convert-refused, convert-ends}
 use borrow.Author.Needs.{needs}
 use Rattle.settings.proofs.convert.convert_settings.Statement.{statement}
 use Rattle.settings.proofs.convert.convert_settings.Tie as tie
@@ -33,41 +34,24 @@ form-meant-requires c κs = search needs
 write-settings-requires : tie.Need-write-settings-requires
 write-settings-requires c κs = search needs
 
+line-for-requires : tie.Need-line-for-requires
+line-for-requires c κs = search needs
+
 same-length : tie.Need-same-length
 same-length c = search needs
 
 returns-2 : tie.Need-returns-2
+unfolding endAt
 returns-2 c =
-    let written = c .before .before .before .before in
+    let written = c .before .before .before in
     let meant = of-form written in
     let tested = taken meant in
     let loaded = of-load tested in
     let args = of-start loaded .args in
-    convert-unwritten (args .form) (now (args .out)) (now (args .text)) (loaded .load-settings .ensures) (tested .if1 .left) (meant .form-meant .ensures)
-    (written .write-settings .ensures) (c .if2 .taken)
-
-same-length-2 : tie.Need-same-length-2
-same-length-2 c = search needs
-
-returns-3 : tie.Need-returns-3
-returns-3 c =
-    let written = c .before .before .before .before in
-    let meant = of-form written in
-    let tested = taken meant in
-    let loaded = of-load tested in
-    let args = of-start loaded .args in
-    convert-written (args .form) (now (args .out)) (now (args .text)) (loaded .load-settings .ensures) (tested .if1 .left) (meant .form-meant .ensures)
-    (written .write-settings .ensures) (c .if2 .left)
+    rw (c .line-for .ensures)
+    (convert-ends (args .form) (now (args .out)) (now (args .text)) (loaded .load-settings .ensures) (tested .if1 .left) (meant .form-meant .ensures)
+    (written .write-settings .ensures))
 
 pub convert-settings-spec : {M : Type 1} → statement M
 convert-settings-spec =
-    tie.close
-    (tie.spec
-    load-settings-requires
-    returns
-    form-meant-requires
-    write-settings-requires
-    same-length
-    returns-2
-    same-length-2
-    returns-3)
+    tie.close (tie.spec load-settings-requires returns form-meant-requires write-settings-requires line-for-requires same-length returns-2)

@@ -1,4 +1,4 @@
--- `settings::head::head_len` meets its contract: the lengths of the five lines, summed up. Assumes nothing.
+-- `settings::head::head_len` meets its contract: the lengths of the lines, summed up. Assumes nothing.
 use Prim.Native.Nat.{_+_, _≤_}
 use mathlib.Core.Path.{_≡_}
 use native.Mathlib.Omega.{arith}
@@ -20,8 +20,11 @@ window c = c .before .before
 abbrev threshold : tie.After-number-line-len2 → tie.After-number-line-len
 threshold c = c .before .before
 
-abbrev default : tie.After-number-line-len → tie.After-word-line-len2
-default c = c .before .before
+abbrev matched : tie.After-number-line-len → tie.After-match-len
+matched c = c .before .before
+
+abbrev default : tie.After-match-len → tie.After-word-line-len2
+default c = c .before
 
 abbrev form : tie.After-word-line-len2 → tie.After-word-line-len
 form c = c .before .before .before
@@ -59,6 +62,9 @@ slice-aggregate-word-line-len-4 c = search needs
 word-line-len-requires-2 : tie.Need-word-line-len-requires-2
 word-line-len-requires-2 c κs = search needs
 
+match-len-requires : tie.Need-match-len-requires
+match-len-requires c κs = search needs
+
 slice-aggregate-number-line-len : tie.Need-slice-aggregate-number-line-len
 slice-aggregate-number-line-len c = search needs
 
@@ -78,25 +84,28 @@ number-line-len-requires-3 : tie.Need-number-line-len-requires-3
 number-line-len-requires-3 c κs = search needs
 
 sum : (c : tie.After-number-line-len3)
-    → let fourth = window c in
-    let third = threshold fourth in
+    → let fifth = window c in
+    let fourth = threshold fifth in
+    let third = matched fourth in
     let second = default third in
     let first = form second in
     let args = of-place (of-action first) .before .args in
     let all =
-    first .word-line-len .result + second .word-line-len2 .result + third .number-line-len .result + fourth .number-line-len2 .result
+    first .word-line-len .result + second .word-line-len2 .result + third .match-len .result + fourth .number-line-len .result + fifth .number-line-len2 .result
     + c .number-line-len3 .result in
-    (all ≡ length (headLines .text (args .form, (args .default-action, (args .threshold, (args .window, args .rules)))))) × (all ≤ 200)
+    (all ≡ length (headLines .text (args .form, (args .default-action, (args .matching, (args .threshold, (args .window, args .rules))))))) × (all ≤ 200)
 sum c =
-    let fourth = window c in
-    let third = threshold fourth in
+    let fifth = window c in
+    let fourth = threshold fifth in
+    let third = matched fourth in
     let second = default third in
     let first = form second in
     let a = of-action first in
     let k = of-place a in
     let args = k .before .args in
-    head-sum (args .form) (args .default-action) (args .threshold) (args .window) (args .rules) (typed k) (k .form-place .ensures) (a .action-number .ensures)
-    (first .word-line-len .ensures) (second .word-line-len2 .ensures) (third .number-line-len .ensures) (fourth .number-line-len2 .ensures) (c .number-line-len3 .ensures)
+    head-sum (args .form) (args .default-action) (args .matching) (args .threshold) (args .window) (args .rules) (typed k) (k .form-place .ensures) (a .action-number .ensures)
+    (first .word-line-len .ensures) (second .word-line-len2 .ensures) (third .match-len .ensures .0) (fourth .number-line-len .ensures) (fifth .number-line-len2 .ensures)
+    (c .number-line-len3 .ensures)
 
 add-result : tie.Need-add-result
 add-result c = omega (arith, sum c)
@@ -109,6 +118,9 @@ add-result-3 c = omega (arith, sum c)
 
 add-result-4 : tie.Need-add-result-4
 add-result-4 c = omega (arith, sum c)
+
+add-result-5 : tie.Need-add-result-5
+add-result-5 c = omega (arith, sum c)
 
 returns : tie.Need-returns
 returns c = sum c
@@ -126,6 +138,7 @@ head-len-spec =
     slice-aggregate-word-line-len-3
     slice-aggregate-word-line-len-4
     word-line-len-requires-2
+    match-len-requires
     slice-aggregate-number-line-len
     number-line-len-requires
     slice-aggregate-number-line-len-2
@@ -136,4 +149,5 @@ head-len-spec =
     add-result-2
     add-result-3
     add-result-4
+    add-result-5
     returns)

@@ -1,4 +1,4 @@
--- `settings::head::put_head` meets its contract: five writes one behind the other. Assumes nothing.
+-- `settings::head::put_head` meets its contract: six writes one behind the other. Assumes nothing.
 use Rattle.settings.proofs.head.HeadText.{head-wrote}
 use borrow.Author.Needs.{needs}
 use Rattle.settings.proofs.head.put_head.Statement.{statement}
@@ -8,8 +8,11 @@ use Rattle.settings.proofs.head.put_head.Tie as tie
 abbrev form : tie.After-put-word-line2 → tie.After-put-word-line
 form c = c .before .before .before .before .before .before
 
-abbrev default : tie.After-put-number-line → tie.After-put-word-line2
-default c = c .before .before .before .before .before
+abbrev default : tie.After-put-match → tie.After-put-word-line2
+default c = c .before .before .before .before
+
+abbrev matched : tie.After-put-number-line → tie.After-put-match
+matched c = c .before .before .before .before .before
 
 abbrev threshold : tie.After-put-number-line2 → tie.After-put-number-line
 threshold c = c .before .before .before .before .before
@@ -51,6 +54,9 @@ slice-aggregate-put-word-line-4 c = search needs
 put-word-line-requires-2 : tie.Need-put-word-line-requires-2
 put-word-line-requires-2 c κs = search needs
 
+put-match-requires : tie.Need-put-match-requires
+put-match-requires c κs = search needs
+
 slice-aggregate-put-number-line : tie.Need-slice-aggregate-put-number-line
 slice-aggregate-put-number-line c = search needs
 
@@ -74,16 +80,18 @@ same-length c = search needs
 
 returns : tie.Need-returns
 returns c =
-    let fifth = c .before .before in
-    let fourth = window fifth in
-    let third = threshold fourth in
+    let sixth = c .before .before in
+    let fifth = window sixth in
+    let fourth = threshold fifth in
+    let third = matched fourth in
     let second = default third in
     let first = form second in
     let a = of-action first in
     let k = of-place a in
     let args = k .before .before .args in
-    head-wrote (args .form) (args .default-action) (args .threshold) (args .window) (args .rules) (k .form-place .ensures) (a .action-number .ensures)
-    (first .put-word-line .ensures) (second .put-word-line2 .ensures) (third .put-number-line .ensures) (fourth .put-number-line2 .ensures) (fifth .put-number-line3 .ensures)
+    head-wrote (args .form) (args .default-action) (args .matching) (args .threshold) (args .window) (args .rules) (k .form-place .ensures) (a .action-number .ensures)
+    (first .put-word-line .ensures) (second .put-word-line2 .ensures) (third .put-match .ensures) (fourth .put-number-line .ensures) (fifth .put-number-line2 .ensures)
+    (sixth .put-number-line3 .ensures)
 
 pub put-head-spec : {M : Type 1} → statement M
 put-head-spec =
@@ -98,6 +106,7 @@ put-head-spec =
     slice-aggregate-put-word-line-3
     slice-aggregate-put-word-line-4
     put-word-line-requires-2
+    put-match-requires
     slice-aggregate-put-number-line
     put-number-line-requires
     slice-aggregate-put-number-line-2
