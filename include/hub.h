@@ -41,8 +41,9 @@ _Static_assert(sizeof(size_t) == 8, "libhub.a is for x86-64: a length has 64 bit
  * the pass that counts, which costs 0.7 to 1.0 times as much again (docs/MEASURED.md). */
 #define HUB_TRACE_ENOUGH 786432
 
-/* No settings text that loads is longer, so an `out` of so many bytes holds what hub_settings writes (proved). */
-#define HUB_SETTINGS_LONGEST 5532
+/* No settings text that loads is longer, in either form, so an `out` of so many bytes holds what hub_settings writes
+ * (proved). */
+#define HUB_SETTINGS_LONGEST 5547
 
 /* The two hashes that tell clients apart. */
 struct HubClientHashes {
@@ -61,8 +62,8 @@ struct HubTrace {
 /* How settings were written back. */
 struct HubSettings {
     uint32_t number; /* 0, or the number of the refusal */
-    uint64_t line;   /* the last line of a text that loads, else the refused one; 0 with 27, 28, and 29 for the form that
-                        was asked for */
+    uint64_t line;   /* the last line of a text that loads, with 37 too; else the refused one; 0 with 27, 28, and 29 for
+                        the form that was asked for */
     size_t length;   /* how many bytes were written; 0 with any refusal */
 };
 
@@ -130,10 +131,12 @@ struct HubTrace hub_trace_standard(const uint8_t *text, size_t text_len, uint8_t
 struct HubTrace hub_trace_standard_length(const uint8_t *text, size_t text_len);
 
 /* Loads a settings text to a fresh monitor and writes that monitor's settings to the front of `out`: in the form that is
- * asked for, 0 for the text's own. So far there is form 1. The rest of `out` is left as it was. A text that loads is
- * written back byte for byte in its own form, so there an `out` as long as the text is enough (proved). Refuses the text
- * with 9, 21 to 27, 29, 35 and 36, at its line; after that a `form` that is not known with 29, and an `out` that the
- * settings do not fit into with 28, both with line 0. With any refusal the length is 0 and nothing is written. */
+ * asked for, 1 or 2, or 0 for the text's own. The rest of `out` is left as it was. A text that loads is written back byte
+ * for byte in its own form, so there an `out` as long as the text is enough; and one that was turned into the other form
+ * turns back into the same bytes (proved). Refuses the text with 9, 21 to 27, 29, 35 and 36, at its line; after that a
+ * `form` that is not known with 29 and line 0, or form 1 of a text that says match=standard, for which form 1 has no
+ * word, with 37 at its last line; and then an `out` that the settings do not fit into with 28 and line 0. With any
+ * refusal the length is 0 and nothing is written. */
 struct HubSettings hub_settings(const uint8_t *text, size_t text_len, uint32_t form, uint8_t *out, size_t out_len);
 
 /* Where the limit stands after a whole trace: the lines of docs/STANDING.md, which follow the answer of hub_trace, or of

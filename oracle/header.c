@@ -163,8 +163,8 @@ static void saving(void) {
     const size_t length = sizeof saved - 1;
     memset(room, 0xa5, sizeof room);
     holds("28 where the room for settings is a byte too short", written(hub_settings(BYTES(saved), 0, room, length - 1), 28, 0, 0));
-    holds("29 for a form that is not known", written(hub_settings(BYTES(saved), 2, room, sizeof room), 29, 0, 0));
-    holds("29 for a text in one", written(hub_settings(BYTES("form=2\n"), 1, room, sizeof room), 29, 1, 0));
+    holds("29 for a form that is not known", written(hub_settings(BYTES(saved), 3, room, sizeof room), 29, 0, 0));
+    holds("29 for a text in one", written(hub_settings(BYTES("form=3\n"), 1, room, sizeof room), 29, 1, 0));
     holds("26 where the text stops short", written(hub_settings(BYTES(saved) - 1, 0, room, sizeof room), 26, 9, 0));
     holds("27 for a text over the longest", written(hub_settings(longer, sizeof longer, 0, room, sizeof room), 27, 0, 0));
     holds("each writes nothing", untouched(0));
@@ -173,6 +173,26 @@ static void saving(void) {
     memset(room, 0xa5, sizeof room);
     holds("in the form asked for", written(hub_settings(BYTES(saved), 1, room, sizeof room), 0, 9, length));
     holds("as they were", memcmp(room, saved, length) == 0 && untouched(length));
+}
+
+/* Settings in the other form and home again, byte for byte; and those that form 1 has no word for. */
+static void converting(void) {
+    static const char one[] = "form=1\ndefault=allow\nthreshold=5\nwindow=60000000\nrules=0\n";
+    static const char two[] = "form=2\ndefault=allow\nmatch=port\nthreshold=5\nwindow=60000000\nrules=0\n";
+    static const char other[] = "form=2\ndefault=allow\nmatch=standard\nthreshold=5\nwindow=60000000\nrules=0\n";
+    memset(room, 0xa5, sizeof room);
+    holds("37 for the standard in form 1", written(hub_settings(BYTES(other), 1, room, sizeof room), 37, 6, 0));
+    holds("37 before 28", written(hub_settings(BYTES(other), 1, room, 0), 37, 6, 0));
+    holds("28 where form 2 is too long", written(hub_settings(BYTES(one), 2, room, sizeof one - 1), 28, 0, 0));
+    holds("each writes nothing", untouched(0));
+    holds("form 1 in form 2", written(hub_settings(BYTES(one), 2, room, sizeof room), 0, 5, sizeof two - 1));
+    holds("says port", memcmp(room, two, sizeof two - 1) == 0 && untouched(sizeof two - 1));
+    memset(room, 0xa5, sizeof room);
+    holds("form 2 in form 1", written(hub_settings(BYTES(two), 1, room, sizeof one - 1), 0, 6, sizeof one - 1));
+    holds("is what it was", memcmp(room, one, sizeof one - 1) == 0 && untouched(sizeof one - 1));
+    memset(room, 0xa5, sizeof room);
+    holds("the standard in its own form", written(hub_settings(BYTES(other), 0, room, sizeof room), 0, 6, sizeof other - 1));
+    holds("is itself", memcmp(room, other, sizeof other - 1) == 0 && untouched(sizeof other - 1));
 }
 
 /* Where the limit stands after document 01's trace: one place is taken, and the topic passes again half a second later. */
@@ -199,6 +219,7 @@ int main(void) {
     standing(hub_standing_standard);
     choosing();
     saving();
+    converting();
     printf("%d passed, %d failed\n", passed, failed);
     return failed != 0;
 }

@@ -19,8 +19,8 @@ pub struct HubTrace {
     pub length: usize,
 }
 
-/// How settings were written back: 0, the text's last line and how many bytes were written; or a number, the refused line
-/// and 0.
+/// How settings were written back: 0, the text's last line and how many bytes were written; or a number, the refused line,
+/// which is the last one with 37, and 0.
 #[repr(C)]
 #[derive(Clone, Copy, Debug, PartialEq, Eq)]
 pub struct HubSettings {
@@ -162,8 +162,8 @@ pub fn trace_standard_length(text: &[u8]) -> HubTrace {
 }
 
 /// The settings of a text, loaded and written back to the front of `out` in a form, 0 for the text's own. Refuses a text with
-/// 9, 21 to 27, 29, 35 and 36 at its line; then a form that is not known with 29, and an `out` that is too short with 28,
-/// each with line 0. Nothing is then written.
+/// 9, 21 to 27, 29, 35 and 36 at its line; then a form that is not known with 29, or form 1 of a text that says standard
+/// with 37, at its last line; and an `out` that is too short with 28. 29 and 28 have line 0. Nothing is then written.
 #[inline]
 pub fn settings(text: &[u8], form: u32, out: &mut [u8]) -> HubSettings {
     unsafe { raw::hub_settings(text.as_ptr(), text.len(), form, out.as_mut_ptr(), out.len()) }
