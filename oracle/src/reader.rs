@@ -1,21 +1,25 @@
-//! A second reader of settings texts, and their writer: from document 01's words on the trace and from those of request
-//! C-13, not from our code. A number or hex is good where it is what we would have written of its value. What
-//! `add_rule` says to a pattern is the original's own word (`trace::rules`).
+//! A second reader of settings texts, and their writer: from document 01's words on the trace and from those of
+//! requests C-13 and C-18, not from our code. A number or hex is good where it is what we would have written of its
+//! value. What `add_rule` says to a pattern is the original's own word (`trace::rules`).
 
 use trace::LONGEST;
 use trace::rules::refusal;
 
 pub const ACTIONS: [&str; 2] = ["allow", "block"];
+pub const MATCHINGS: [&str; 2] = ["port", "standard"];
 pub const POLICIES: [&str; 7] = ["any", "min0", "min1", "min2", "only0", "only1", "only2"];
 
 /// Where something stands that is refused after the last line, or with no line.
 pub const AFTER: &str = "a line after the end";
 pub const NOWHERE: &str = "no line";
 
-/// What a settings text says; words as they stand in it.
+/// What a settings text says, and in which form; words as they stand in it. A text of form 1 does not say how rules
+/// match, and means port.
 #[derive(Clone, Debug, PartialEq)]
 pub struct Settings {
+    pub form: u32,
     pub default: &'static str,
+    pub matching: &'static str,
     pub threshold: u64,
     pub window: u64,
     pub rules: Vec<Rule>,
@@ -41,15 +45,28 @@ pub struct Refused {
 /// What a text says, and how many lines it has; or its refusal.
 pub type Read = Result<(Settings, u64), Refused>;
 
-/// The text of settings.
+/// The text of settings, in their form.
 pub fn text(settings: &Settings) -> Vec<u8> {
-    let Settings { default, threshold, window, rules } = settings;
-    let mut text =
-        format!("form=1\ndefault={default}\nthreshold={threshold}\nwindow={window}\nrules={}\n", rules.len());
+    let Settings { form, default, matching, threshold, window, rules } = settings;
+    let mut text = format!("form={form}\ndefault={default}\n");
+    if *form == 2 {
+        text += &format!("match={matching}\n");
+    }
+    text += &format!("threshold={threshold}\nwindow={window}\nrules={}\n", rules.len());
     for Rule { pattern, action, qos, rate } in rules {
         text += &format!("pattern={}\naction={action}\nqos={qos}\nrate={rate}\n", hex(pattern));
     }
     text.into_bytes()
+}
+
+/// The settings in a form; or the number that refuses it: 29 where it is not known, 37 where it cannot say how the
+/// rules match.
+pub fn in_form(settings: &Settings, form: u32) -> Result<Settings, u32> {
+    match form {
+        1 if settings.matching != "port" => Err(37),
+        1 | 2 => Ok(Settings { form, ..settings.clone() }),
+        _ => Err(29),
+    }
 }
 
 /// Bytes in hex.
@@ -87,10 +104,13 @@ struct Reader<'a> {
 impl<'a> Reader<'a> {
     /// All lines in their order; the error is the number of the refusal.
     fn settings(&mut self) -> Result<Settings, u32> {
-        if self.value("form=")? != b"1" {
-            return Err(29);
-        }
+        let form = match self.value("form=")? {
+            b"1" => 1,
+            b"2" => 2,
+            _ => return Err(29),
+        };
         let default = self.word("default=", &ACTIONS)?;
+        let matching = if form == 1 { "port" } else { self.word("match=", &MATCHINGS)? };
         let threshold = self.number("threshold=", 2, 16)?;
         let window = self.number("window=", 1_000_000, 600_000_000)?;
         let mut rules: Vec<Rule> = Vec::new();
@@ -102,7 +122,7 @@ impl<'a> Reader<'a> {
                 number => return Err(number),
             }
         }
-        Ok(Settings { default, threshold, window, rules })
+        Ok(Settings { form, default, matching, threshold, window, rules })
     }
 
     fn rule(&mut self) -> Result<Rule, u32> {

@@ -31,12 +31,12 @@ fn settings(monitor: &MqttMonitor) -> Settings {
         }
     };
     let rules = (0..monitor.rule_count()).filter_map(|place| state::rule(monitor, place)).map(rule).collect();
-    Settings { default: action_word(default), threshold: threshold.into(), window, rules }
+    Settings { form: 1, default: action_word(default), matching: "port", threshold: threshold.into(), window, rules }
 }
 
 /// A fresh monitor that calls gave these settings.
 fn made(settings: &Settings) -> MqttMonitor {
-    let Settings { default, threshold, window, rules } = settings;
+    let Settings { default, threshold, window, rules, .. } = settings;
     let mut fresh = Original::new();
     fresh.answer(if *default == "allow" { NEW } else { NEW_DENY_DEFAULT });
     fresh.answer(&format!("set_connect_storm_params {threshold} {window}"));

@@ -3,7 +3,7 @@
 
 use crate::damage;
 use crate::make::{BROKEN, EDGES, LENGTHS, among, pattern};
-use crate::reader::{ACTIONS, POLICIES, Rule, Settings, text};
+use crate::reader::{ACTIONS, MATCHINGS, POLICIES, Rule, Settings, text};
 use crate::tally::Random;
 use trace::LONGEST;
 use trace::rules::refusal;
@@ -11,11 +11,15 @@ use trace::rules::refusal;
 /// The longest pattern that a rule may have.
 const PATTERN_MAX: usize = 64;
 
-/// Settings that a hub may have: numbers at the ends of their ranges, and as many rules as there is room for.
+/// Settings that a hub may have, in either form: numbers at the ends of their ranges, and as many rules as there is
+/// room for.
 pub fn settings(random: &mut Random) -> Settings {
+    let form = random.pick(&[1, 2]);
     let any = [2 + random.below(15), 1_000_000 + random.below(599_000_001)].map(|number| number as u64);
     let mut settings = Settings {
+        form,
         default: random.pick(&ACTIONS),
+        matching: if form == 1 { "port" } else { random.pick(&MATCHINGS) },
         threshold: random.pick(&[2, 5, 9, 10, 16, any[0]]),
         window: random.pick(&[1_000_000, 9_999_999, 60_000_000, 600_000_000, any[1]]),
         rules: Vec::new(),
@@ -52,8 +56,8 @@ fn some_pattern(random: &mut Random) -> Vec<u8> {
     pattern(random, length)
 }
 
-/// The longest text that there is: each value at its longest.
-pub fn longest() -> Vec<u8> {
+/// The longest text of a form: each value at its longest.
+pub fn longest(form: u32) -> Vec<u8> {
     let rule = |place: usize| Rule {
         pattern: format!("{place:0PATTERN_MAX$}").into_bytes(),
         action: "allow",
@@ -61,7 +65,7 @@ pub fn longest() -> Vec<u8> {
         rate: 65_535,
     };
     let rules = (0..32).map(rule).collect();
-    text(&Settings { default: "block", threshold: 16, window: 600_000_000, rules })
+    text(&Settings { form, default: "block", matching: "standard", threshold: 16, window: 600_000_000, rules })
 }
 
 /// A text that is mostly refused: one damage, seldom two or three.
@@ -102,29 +106,36 @@ fn bad_pattern(random: &mut Random, settings: &mut Settings) {
 
 /// One damage more.
 fn spoilt(random: &mut Random, text: &[u8]) -> Vec<u8> {
-    match random.below(8) {
+    match random.below(9) {
         0..3 => revalued(random, text),
         3..5 => relined(random, text),
-        5 => damage::one(random, text),
-        6 => ended(random, text),
+        5 => reformed(random, text),
+        6 => damage::one(random, text),
+        7 => ended(random, text),
         _ => cut(random, text),
     }
 }
 
-/// A line's place: as often one of the five before the rules as one of all.
+/// A line's place: as often one of the first six, so that all before the rules are among them, as one of all.
 fn some_line(random: &mut Random, lines: usize) -> usize {
-    let most = if random.one_in(2) { lines.min(5) } else { lines };
+    let most = if random.one_in(2) { lines.min(6) } else { lines };
     random.below(most)
+}
+
+/// The lines of a text, their LF included.
+fn lines(text: &[u8]) -> Vec<Vec<u8>> {
+    text.split_inclusive(|&byte| byte == b'\n').map(<[u8]>::to_vec).collect()
 }
 
 /// Another value in one line: mostly one that this key must not have.
 fn revalued(random: &mut Random, text: &[u8]) -> Vec<u8> {
-    let mut lines: Vec<Vec<u8>> = text.split_inclusive(|&byte| byte == b'\n').map(<[u8]>::to_vec).collect();
+    let mut lines = lines(text);
     let place = some_line(random, lines.len());
     let Some(end) = lines[place].iter().position(|&byte| byte == b'=') else { return relined(random, text) };
     let key = &lines[place][..end];
     let bad: &[&str] = match key {
-        b"form" => &["", "0", "01", "2", "3", "11", "1 ", " 1", "1\r", "+1", "one"],
+        b"form" => &["", "0", "01", "02", "3", "11", "12", "22", "1 ", " 2", "1\r", "2\r", "+1", "one", "1", "2"],
+        b"match" => &["", "Port", "STANDARD", "port ", "standard\r", "standards", "any", "1", "port", "standard"],
         b"default" | b"action" => &["", "Allow", "BLOCK", "allo", "allowed", "block ", "deny", "any", "0"],
         b"threshold" => &["", "0", "1", "17", "02", "016", "-2", "+5", "5 ", "1e1", "x", "2", "16"],
         b"window" => &["", "0", "999999", "600000001", "01000000", "6e7", "1000000\r", "1_000_000", "1000000"],
@@ -140,7 +151,7 @@ fn revalued(random: &mut Random, text: &[u8]) -> Vec<u8> {
             let digits = b"61".repeat(random.pick(&[127, 128, 129]));
             value = [&digits[..], random.pick(&[&b"6"[..], b"6G", b"6g", b"zz"])].concat();
         }
-        (b"default" | b"action" | b"qos", _) => {}
+        (b"default" | b"match" | b"action" | b"qos", _) => {}
         (_, 0) => value = random.pick(&[b"1", b"2", b"9"]).repeat(random.pick(&[20, 21, 100])),
         (_, 1) => {
             // What is this number again, where 64 bits are all that is looked at.
@@ -155,9 +166,27 @@ fn revalued(random: &mut Random, text: &[u8]) -> Vec<u8> {
     lines.concat()
 }
 
+/// Lines of one form under the other: the first line changed alone; or the line `match=` lost, doubled or put before
+/// the one above it; or put in, where there is none.
+fn reformed(random: &mut Random, text: &[u8]) -> Vec<u8> {
+    let mut lines = lines(text);
+    let found = lines.iter().position(|line| line.starts_with(b"match="));
+    match (random.below(4), found) {
+        (0, _) => lines[0] = if lines[0] == b"form=1\n" { b"form=2\n".to_vec() } else { b"form=1\n".to_vec() },
+        (1, Some(place)) => _ = lines.remove(place),
+        (2, Some(place)) => lines.insert(place, lines[place].clone()),
+        (_, Some(place)) => lines.swap(place.saturating_sub(1), place),
+        (_, None) => {
+            let line = random.pick(&[&b"match=port\n"[..], b"match=standard\n"]).to_vec();
+            lines.insert(some_line(random, lines.len()), line);
+        }
+    }
+    lines.concat()
+}
+
 /// A line lost, doubled, emptied or put elsewhere; its key or its end another; or a line more.
 fn relined(random: &mut Random, text: &[u8]) -> Vec<u8> {
-    let mut lines: Vec<Vec<u8>> = text.split_inclusive(|&byte| byte == b'\n').map(<[u8]>::to_vec).collect();
+    let mut lines = lines(text);
     let (place, other) = (some_line(random, lines.len()), random.below(lines.len()));
     let line = &mut lines[place];
     match random.below(11) {
