@@ -20,7 +20,7 @@ use vs_types_embedded::{MonitorReset, MqttMessage, MqttPacketType, MqttQoS, fnv1
 /// The constructors, and the word for the matcher of what they make.
 pub const NEW: &str = if matcher::STANDARD { "new_standard" } else { "new" };
 pub const NEW_DENY_DEFAULT: &str = if matcher::STANDARD { "new_standard_deny_default" } else { "new_deny_default" };
-const MATCH: &str = if matcher::STANDARD { "standard" } else { "port" };
+pub const MATCH: &str = if matcher::STANDARD { "standard" } else { "port" };
 
 /// Fields that a script may set.
 const FIELDS: [&str; 6] = ["next_id", "total_inspected", "total_alerts", "threshold", "window", "rule_count"];
@@ -237,7 +237,7 @@ impl Original {
                 monitor.reset_state();
                 Ok(0)
             }
-            "reload" => return reload(monitor),
+            "reload" => return reload(monitor, args.small(0, 32) as u32),
             "standing" => return stands(monitor, &args.bytes(0), None),
             "tokens_left" => return stands(monitor, &args.bytes(0), Some(args.number(1))),
             "inspect" | "inspect_claimed" => return inspect(monitor, name == "inspect_claimed", args),

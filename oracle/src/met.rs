@@ -80,29 +80,32 @@ impl Met {
         self.count("four alerts at once", (result.alert_count == 4).into());
     }
 
-    /// Counts a message for which the port would choose another rule: by the first that one of the matchers takes.
-    pub fn count_choice(&mut self, monitor: &MqttMonitor, message: &MqttMessage) {
+    /// Counts a message for which the port would choose another rule: by the first that one of the matchers takes. Says
+    /// whether it is such a message.
+    pub fn count_choice(&mut self, monitor: &MqttMonitor, message: &MqttMessage) -> bool {
         let topic = message.topic_bytes();
         let kind = match message.packet_type {
-            MqttPacketType::Publish if opened::contains_invalid_publish_char(topic) => return,
+            MqttPacketType::Publish if opened::contains_invalid_publish_char(topic) => return false,
             MqttPacketType::Publish => 0,
             MqttPacketType::Subscribe => 1,
             MqttPacketType::Unsubscribe => 2,
-            _ => return,
+            _ => return false,
         };
         if !matcher::STANDARD || topic.is_empty() {
-            return;
+            return false;
         }
         let rules = (0..monitor.rule_count()).filter_map(|place| state::rule(monitor, place));
         let mut taken = rules.map(|rule| {
             let pattern = &rule.pattern[..rule.pattern_len as usize];
             (opened::topic_matches(topic, pattern), matcher::matches(topic, pattern))
         });
-        match taken.find(|&(port, standard)| port || standard) {
-            Some((true, false)) if topic[0] == b'$' => self.count(DOLLAR_NAMES[kind], 1),
-            Some((false, true)) if topic.ends_with(b"/") => self.count(EMPTY_LEVELS[kind], 1),
-            _ => {}
-        }
+        let what = match taken.find(|&(port, standard)| port || standard) {
+            Some((true, false)) if topic[0] == b'$' => DOLLAR_NAMES[kind],
+            Some((false, true)) if topic.ends_with(b"/") => EMPTY_LEVELS[kind],
+            _ => return false,
+        };
+        self.count(what, 1);
+        true
     }
 
     /// Counts the places that went from one holder to another.

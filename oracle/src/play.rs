@@ -82,23 +82,24 @@ pub const STANDS: [&str; 18] = [
     "left: all but one of a rate",
 ];
 
-/// Reloads of settings, and what was lost by them; none where standard monitors are played.
-pub const RELOADS: &[&str] = if STANDARD {
-    &[]
-} else {
-    &[
-        "reload",
-        "reload refused 10",
-        "reload refused 22",
-        "reload refused 35",
-        "reloaded without rules",
-        "reloaded with 32 rules",
-        "reloaded, to deny by default",
-        "reloaded, buckets lost",
-        "reloaded, clients lost",
-        "reloaded, trackers lost",
-    ]
-};
+/// Reloads of settings, and what was lost by them. Form 1 cannot say how standard monitors match.
+pub const RELOADS: [&str; 12] = [
+    if STANDARD { "reload refused 37" } else { "reload in form 1" },
+    "reload in form 2",
+    "reload refused 10",
+    "reload refused 22",
+    "reload refused 29",
+    "reload refused 35",
+    "reloaded without rules",
+    "reloaded with 32 rules",
+    "reloaded, to deny by default",
+    "reloaded, buckets lost",
+    "reloaded, clients lost",
+    "reloaded, trackers lost",
+];
+
+/// What only standard monitors meet: a loaded one goes on as one.
+const GOES_ON: &str = "reloaded, then a rule chosen that the port would not choose";
 
 /// Why a state is refused with 10.
 const REASONS: [&str; 9] = [
@@ -144,7 +145,8 @@ pub fn all() -> impl Iterator<Item = &'static str> {
     let calls = CALLS.into_iter().chain(TYPES).chain(REFUSALS).chain(REASONS);
     calls
         .chain(STANDS)
-        .chain(RELOADS.iter().copied())
+        .chain(RELOADS)
+        .chain(STANDARD.then_some(GOES_ON))
         .chain(kinds)
         .chain(PLACES)
         .chain(STEPS)
@@ -161,11 +163,13 @@ pub struct Play<'a> {
     /// The answers so far.
     pub said: String,
     last_at: u64,
+    /// Whether the monitor is one that a text loaded to.
+    loaded: bool,
 }
 
 impl Play<'_> {
     pub fn new(met: &mut Met) -> Play<'_> {
-        Play { original: Original::new(), met, lines: Vec::new(), said: String::new(), last_at: 0 }
+        Play { original: Original::new(), met, lines: Vec::new(), said: String::new(), last_at: 0, loaded: false }
     }
 
     /// One line more.
@@ -187,7 +191,7 @@ impl Play<'_> {
         let taken = matches!(answer, Answer::Done(_) | Answer::Inspected(..));
         self.met.count("remainder over 999,999 in a free place", (far && taken).into());
         match &answer {
-            Answer::Text(_) => {}
+            Answer::Text(_) => self.loaded &= words[0] != NEW && words[0] != NEW_DENY_DEFAULT,
             Answer::Done(shadowed) => {
                 self.met.count("rules shadowed", (*shadowed > 0).into());
                 self.met.count("bucket removed", (words[0] == "remove_rate_bucket").into());
@@ -198,14 +202,15 @@ impl Play<'_> {
             }
             Answer::Refused(number) => {
                 let name = format!("{} refused {number}", words[0]);
-                self.met.count(REFUSALS.iter().chain(RELOADS).find(|known| **known == name).expect(&name), 1);
+                self.met.count(REFUSALS.iter().chain(&RELOADS).find(|known| **known == name).expect(&name), 1);
                 if let (10, Some(reason)) = (number, reason) {
                     self.met.count(reason, 1);
                 }
             }
             Answer::Reloaded { number: 0, .. } => {
                 let lost = |places: std::ops::Range<usize>| holders[places].iter().any(Option::is_some).into();
-                self.met.count("reload", 1);
+                let name = format!("reload in form {}", words[1]);
+                self.met.count(RELOADS.iter().find(|known| **known == name).expect(&name), 1);
                 self.met.count("calls", 1);
                 self.met.count("reloaded without rules", (rules == 0).into());
                 self.met.count("reloaded with 32 rules", (rules == 32).into());
@@ -214,6 +219,7 @@ impl Play<'_> {
                 self.met.count("reloaded, buckets lost", lost(0..32));
                 self.met.count("reloaded, clients lost", lost(32..48));
                 self.met.count("reloaded, trackers lost", lost(48..64));
+                self.loaded = true;
             }
             Answer::Reloaded { number, .. } => {
                 let name = format!("reload refused {number}");
@@ -252,7 +258,8 @@ impl Play<'_> {
                 self.met.count("clock back", (message.timestamp_us < self.last_at).into());
                 self.last_at = message.timestamp_us;
                 self.met.count_alerts(result);
-                self.met.count_choice(monitor, message);
+                let apart = self.met.count_choice(monitor, message);
+                self.met.count(GOES_ON, (apart && self.loaded).into());
                 self.met.count_places(holders, monitor, result);
                 self.met.count_step(&buckets, monitor, message, result);
                 self.met.count("id wrapped", (state::settings(monitor).3 < next_id).into());

@@ -1,13 +1,17 @@
-//! A reload of the original (request C-13): its settings as text, by the second writer, and the monitor that the second
-//! reader makes of them by the original's own calls (reader.rs).
+//! A reload of the original (requests C-13 and C-18): its settings as text in a form, by the second writer, and the
+//! monitor that the second reader makes of them by the original's own calls (reader.rs).
 
-use crate::answers::{Answer, NEW, NEW_DENY_DEFAULT, Original, action_word, hex, policy_words};
+use crate::answers::{Answer, MATCH, NEW, NEW_DENY_DEFAULT, Original, action_word, hex, policy_words};
 use crate::reader::{self, POLICIES, Refused, Rule, Settings};
 use vs_mqtt_monitor::{MqttMonitor, state};
 
-/// The monitor is then the one that its text loads to; one whose text is refused stays.
-pub fn reload(monitor: &mut MqttMonitor) -> Answer {
-    let text = reader::text(&settings(monitor));
+/// The monitor is then the one that its text loads to; one that has no text in this form, or whose text is refused,
+/// stays.
+pub fn reload(monitor: &mut MqttMonitor, form: u32) -> Answer {
+    let text = match reader::in_form(&settings(monitor), form) {
+        Ok(settings) => reader::text(&settings),
+        Err(number) => return Answer::Refused(number),
+    };
     let (number, line) = match reader::read(&text) {
         Ok((settings, lines)) => {
             *monitor = made(&settings);
@@ -18,7 +22,7 @@ pub fn reload(monitor: &mut MqttMonitor) -> Answer {
     Answer::Reloaded { text, number, line }
 }
 
-/// What a text says of a monitor that number 10 lets pass.
+/// What a text says of a monitor that number 10 lets pass, in the form that can say all of it.
 fn settings(monitor: &MqttMonitor) -> Settings {
     let (default, threshold, window, _) = state::settings(monitor);
     let rule = |rule: state::Rule| {
@@ -31,12 +35,13 @@ fn settings(monitor: &MqttMonitor) -> Settings {
         }
     };
     let rules = (0..monitor.rule_count()).filter_map(|place| state::rule(monitor, place)).map(rule).collect();
-    Settings { form: 1, default: action_word(default), matching: "port", threshold: threshold.into(), window, rules }
+    Settings { form: 2, default: action_word(default), matching: MATCH, threshold: threshold.into(), window, rules }
 }
 
-/// A fresh monitor that calls gave these settings.
+/// A fresh monitor that calls gave these settings. It matches as all of them do here.
 fn made(settings: &Settings) -> MqttMonitor {
-    let Settings { default, threshold, window, rules, .. } = settings;
+    let Settings { default, matching, threshold, window, rules, .. } = settings;
+    assert_eq!(*matching, MATCH);
     let mut fresh = Original::new();
     fresh.answer(if *default == "allow" { NEW } else { NEW_DENY_DEFAULT });
     fresh.answer(&format!("set_connect_storm_params {threshold} {window}"));

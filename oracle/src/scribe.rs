@@ -13,7 +13,6 @@ use crate::play::Play;
 use crate::tally::Random;
 use asks::{ask_standing, ask_tokens};
 use reloads::reload;
-use vs_mqtt_monitor::matcher::STANDARD;
 use vs_mqtt_monitor::{MqttMonitor, state};
 use vs_types_embedded::fnv1a_hash;
 
@@ -29,7 +28,7 @@ const TURNS: usize = 50;
 /// One maker: its name, itself, and what its scripts must have met.
 pub type Maker = (&'static str, fn(&mut Scribe), &'static [&'static str]);
 
-const MAKERS: &[Maker] = &[
+pub const MAKERS: &[Maker] = &[
     ("every call", every_call, &[NEW, NEW_DENY_DEFAULT, "reset_state", "counters", "pattern overwritten"]),
     (
         "tables of rules",
@@ -76,12 +75,8 @@ const MAKERS: &[Maker] = &[
         &["bucket removed", "bucket replaced", "kind 5", "kind 6", "remove_rate_bucket refused 7"],
     ),
     asks::STANDING,
+    reloads::RELOADED,
 ];
-
-/// All makers; a standard monitor is not reloaded.
-pub fn makers() -> impl Iterator<Item = &'static Maker> {
-    MAKERS.iter().chain((!STANDARD).then_some(&reloads::RELOADED))
-}
 
 /// One script of a maker.
 pub fn make<'a>(maker: &Maker, seed: u64, pairs: &'a Pairs, met: &'a mut Met) -> Play<'a> {

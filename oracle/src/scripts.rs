@@ -44,7 +44,7 @@ fn main() {
     let mut run = Run { program, met: Met::default(), sides, classes: Vec::new() };
     for seed in seeds {
         let mut random = Random(seed);
-        for maker in scribe::makers() {
+        for maker in scribe::MAKERS {
             run.scripts(maker, seed, &mut random, &pairs);
         }
     }

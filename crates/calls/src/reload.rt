@@ -1,7 +1,8 @@
-// Settings as text, and back, as after a power cut (request C-13):
-//     reload
-// The answer has the text. The state is then the one that the text loads to; a state that is refused stays, and so does one whose text is.
+// Settings as text in a form, and back, as after a power cut (requests C-13, C-18):
+//     reload FORM
+// The answer has the text. The state is then the one that the text loads to; a state that is refused stays, and so does one that has no text in this form or whose text is refused.
 use crate::fields;
+use crate::parts::number32;
 use crate::say::say;
 use crate::say::say_number;
 use cut::after;
@@ -11,9 +12,6 @@ use cut::upto;
 use monitor::state::MqttMonitor;
 use settings::load::load_settings;
 use settings::write::write_settings;
-
-// The form that is written.
-const FORM: u32 = 1;
 
 // The lines of a text, each behind some blanks.
 fn say_lines(text: &[u8]) {
@@ -26,10 +24,10 @@ fn say_lines(text: &[u8]) {
     }
 }
 
-// The longest text has 5,532 bytes, and some more where settings are set by hand.
-fn reload(m: MqttMonitor) -> MqttMonitor {
+// The longest text has 5,547 bytes, and some more where settings are set by hand.
+fn reload(m: MqttMonitor, form: u32) -> MqttMonitor {
     let mut room = [0u8; 6144];
-    let written = write_settings(m, FORM, &mut room);
+    let written = write_settings(m, form, &mut room);
     if written.number != 0 {
         say_number(b"refused", written.number as u64);
         return m;
@@ -51,7 +49,7 @@ fn reload(m: MqttMonitor) -> MqttMonitor {
 // It, or any other line.
 pub fn ask(m: MqttMonitor, name: &[u8], q: &[u8]) -> MqttMonitor {
     if is(name, b"reload") {
-        return reload(m);
+        return reload(m, number32(q, 1));
     }
     fields::ask(m, name, q)
 }

@@ -5,16 +5,20 @@ use super::{
 };
 use crate::make::{EDGES, among};
 use crate::play::RELOADS;
-use vs_mqtt_monitor::matcher::STANDARD;
+use vs_mqtt_monitor::state;
 
 /// The maker of them.
-pub const RELOADED: Maker = ("settings that come back", reloaded, RELOADS);
+pub const RELOADED: Maker = ("settings that come back", reloaded, &RELOADS);
 
-/// What is loaded matches as the Rust does, since a text does not say how: a standard monitor is not reloaded.
+/// In the form that can say all, in the other, or seldom in one that there is not.
 pub fn reload(scribe: &mut Scribe) {
-    if !STANDARD {
-        scribe.line("reload".into());
-    }
+    let any = scribe.random.next() as u32;
+    let form = match scribe.random.below(16) {
+        0 => scribe.random.pick(&[0, 3, 257, 65_537, u32::MAX, any]),
+        1..7 => 1,
+        _ => 2,
+    };
+    scribe.line(format!("reload {form}"));
 }
 
 /// A rule that is of the longest pattern, or not of ASCII alone.
@@ -35,8 +39,10 @@ fn by_hand(scribe: &mut Scribe) {
         // A rule that is counted no more, and its pattern is not gone.
         2 => format!("rule_count {}", count.saturating_sub(1)),
         _ => {
-            let place = scribe.random.below(count.max(1));
-            format!("rule_pattern {place} {}", arg(b"a/b"))
+            let [place, other] = [0; 2].map(|_| scribe.random.below(count.max(1)));
+            let rule = state::rule(&scribe.play.original.monitor, other);
+            let pattern = rule.map_or(b"a/b".to_vec(), |rule| rule.pattern[..rule.pattern_len as usize].to_vec());
+            format!("rule_pattern {place} {}", arg(&pattern))
         }
     };
     scribe.line(line);
@@ -64,7 +70,7 @@ fn reloaded(scribe: &mut Scribe) {
         ],
     );
     scribe.some_turns(12, &[(2, by_hand), (4, reload), (1, add_rule), (1, set_storm), (1, publish)]);
-    for last in [clear_rules, spoil] {
+    for last in [clear_rules, spoil, spoil] {
         last(scribe);
         reload(scribe);
     }
