@@ -3,9 +3,9 @@
 //! out, 9 for a lent topic or payload shorter than the part used, 36 for a pattern that is not UTF-8 (`trace::rules`),
 //! zeros behind the pattern of a rule that is added, and a bucket's step with its remainder (oracle/opened/kept.rs);
 //! docs/DIFFERENCES.md has them all. A line that is not understood, or a field that there is not, ends the program; so
-//! does a constructor of monitors that choose rules by another matcher than the original that this is built over. Where
-//! the limit stands is no call of the original: it is found out by trying on copies (tried.rs). Nor are its settings as
-//! text, of which there are a second reader and writer (reload.rs).
+//! does a call that chooses a rule, on a monitor that matches otherwise than the original that this is built over.
+//! Where the limit stands is no call of the original: it is found out by trying on copies (tried.rs). Nor are its
+//! settings as text, of which there are a second reader and writer (reload.rs).
 
 use crate::reload::reload;
 use crate::tally::Random;
@@ -17,10 +17,10 @@ use vs_mqtt_monitor::{MqttInspectResult, MqttMonitor, QosPolicy, TopicAction, ma
 use vs_types::VsError;
 use vs_types_embedded::{MonitorReset, MqttMessage, MqttPacketType, MqttQoS, fnv1a_hash, opened};
 
-/// The constructors, and the word for the matcher of what they make.
+/// The constructors of monitors that match as this original does, and the word for how that is.
 pub const NEW: &str = if matcher::STANDARD { "new_standard" } else { "new" };
 pub const NEW_DENY_DEFAULT: &str = if matcher::STANDARD { "new_standard_deny_default" } else { "new_deny_default" };
-pub const MATCH: &str = if matcher::STANDARD { "standard" } else { "port" };
+const MATCH: &str = if matcher::STANDARD { "standard" } else { "port" };
 
 /// Fields that a script may set.
 const FIELDS: [&str; 6] = ["next_id", "total_inspected", "total_alerts", "threshold", "window", "rule_count"];
@@ -180,13 +180,15 @@ pub fn no_call_hands_out(monitor: &MqttMonitor) -> Option<&'static str> {
 /// The original, as a script leaves it.
 pub struct Original {
     pub monitor: MqttMonitor,
+    /// How the monitor matches, as its constructor or its text says.
+    pub matching: &'static str,
     /// Rules that were added over bytes of another pattern: the original leaves those behind the new one's.
     pub stale: u64,
 }
 
 impl Original {
     pub fn new() -> Original {
-        Original { monitor: MqttMonitor::new(), stale: 0 }
+        Original { monitor: MqttMonitor::new(), matching: "port", stale: 0 }
     }
 
     /// A line's answer: what any state takes first.
@@ -197,13 +199,16 @@ impl Original {
         let monitor = &mut self.monitor;
         let mut text = String::new();
         match name {
-            NEW => *monitor = MqttMonitor::new(),
-            NEW_DENY_DEFAULT => *monitor = MqttMonitor::new_deny_default(),
+            "new" | "new_deny_default" | "new_standard" | "new_standard_deny_default" => {
+                let denies = name.ends_with("deny_default");
+                *monitor = if denies { MqttMonitor::new_deny_default() } else { MqttMonitor::new() };
+                self.matching = if name.starts_with("new_standard") { "standard" } else { "port" };
+            }
             "counters" => {
                 let (inspected, alerts) = (monitor.total_inspected(), monitor.total_alerts());
                 text = format!(" inspected={inspected} alerts={alerts} rules={}", monitor.rule_count());
             }
-            "state" | "rules" | "buckets" | "trackers" | "windows" | "all" => text = look(monitor, name),
+            "state" | "rules" | "buckets" | "trackers" | "windows" | "all" => text = look(monitor, self.matching, name),
             "rule_pattern" => state::set_pattern(monitor, args.number(0) as usize, &args.bytes(1)),
             _ if FIELDS.contains(&name) => assert!(state::set(monitor, name, args.number(0)), "{name}"),
             _ if RECORD_FIELDS.contains(&name) => {
@@ -237,7 +242,10 @@ impl Original {
                 monitor.reset_state();
                 Ok(0)
             }
-            "reload" => return reload(monitor, args.small(0, 32) as u32),
+            "reload" => return reload(self, args.small(0, 32) as u32),
+            "standing" | "tokens_left" | "inspect" | "inspect_claimed" if self.matching != MATCH => {
+                panic!("{name} of a monitor whose matching is {}", self.matching)
+            }
             "standing" => return stands(monitor, &args.bytes(0), None),
             "tokens_left" => return stands(monitor, &args.bytes(0), Some(args.number(1))),
             "inspect" | "inspect_claimed" => return inspect(monitor, name == "inspect_claimed", args),
@@ -358,13 +366,13 @@ fn record(monitor: &MqttMonitor, table: &str, place: usize) -> Option<String> {
 }
 
 /// What stands in no table, in the places of one that are not free, or all of it.
-fn look(monitor: &MqttMonitor, what: &str) -> String {
+fn look(monitor: &MqttMonitor, matching: &str, what: &str) -> String {
     let mut text = String::new();
     if what == "state" || what == "all" {
         let (action, threshold, window, next_id) = state::settings(monitor);
         let (action, rules) = (action_word(action), monitor.rule_count());
         let (inspected, alerts) = (monitor.total_inspected(), monitor.total_alerts());
-        text += &format!(" action={action} match={MATCH} threshold={threshold} window={window} next_id={next_id}");
+        text += &format!(" action={action} match={matching} threshold={threshold} window={window} next_id={next_id}");
         text += &format!(" inspected={inspected} alerts={alerts} rules={rules}");
     }
     for (table, places) in TABLES {

@@ -1,20 +1,20 @@
 //! A reload of the original (requests C-13 and C-18): its settings as text in a form, by the second writer, and the
 //! monitor that the second reader makes of them by the original's own calls (reader.rs).
 
-use crate::answers::{Answer, MATCH, NEW, NEW_DENY_DEFAULT, Original, action_word, hex, policy_words};
+use crate::answers::{Answer, Original, action_word, hex, policy_words};
 use crate::reader::{self, POLICIES, Refused, Rule, Settings};
-use vs_mqtt_monitor::{MqttMonitor, state};
+use vs_mqtt_monitor::state;
 
 /// The monitor is then the one that its text loads to; one that has no text in this form, or whose text is refused,
 /// stays.
-pub fn reload(monitor: &mut MqttMonitor, form: u32) -> Answer {
-    let text = match reader::in_form(&settings(monitor), form) {
+pub fn reload(original: &mut Original, form: u32) -> Answer {
+    let text = match reader::in_form(&settings(original), form) {
         Ok(settings) => reader::text(&settings),
         Err(number) => return Answer::Refused(number),
     };
     let (number, line) = match reader::read(&text) {
         Ok((settings, lines)) => {
-            *monitor = made(&settings);
+            *original = Original { stale: original.stale, ..made(&settings) };
             (0, lines)
         }
         Err(Refused { number, line, .. }) => (number, line),
@@ -23,7 +23,8 @@ pub fn reload(monitor: &mut MqttMonitor, form: u32) -> Answer {
 }
 
 /// What a text says of a monitor that number 10 lets pass, in the form that can say all of it.
-fn settings(monitor: &MqttMonitor) -> Settings {
+fn settings(original: &Original) -> Settings {
+    let Original { monitor, matching, .. } = original;
     let (default, threshold, window, _) = state::settings(monitor);
     let rule = |rule: state::Rule| {
         let word = policy_words(rule.policy).replace('=', "");
@@ -35,18 +36,19 @@ fn settings(monitor: &MqttMonitor) -> Settings {
         }
     };
     let rules = (0..monitor.rule_count()).filter_map(|place| state::rule(monitor, place)).map(rule).collect();
-    Settings { form: 2, default: action_word(default), matching: MATCH, threshold: threshold.into(), window, rules }
+    Settings { form: 2, default: action_word(default), matching, threshold: threshold.into(), window, rules }
 }
 
-/// A fresh monitor that calls gave these settings. It matches as all of them do here.
-fn made(settings: &Settings) -> MqttMonitor {
+/// A fresh monitor that calls gave these settings.
+fn made(settings: &Settings) -> Original {
     let Settings { default, matching, threshold, window, rules, .. } = settings;
-    assert_eq!(*matching, MATCH);
     let mut fresh = Original::new();
-    fresh.answer(if *default == "allow" { NEW } else { NEW_DENY_DEFAULT });
+    let standard = if *matching == "standard" { "_standard" } else { "" };
+    let denies = if *default == "block" { "_deny_default" } else { "" };
+    fresh.answer(&format!("new{standard}{denies}"));
     fresh.answer(&format!("set_connect_storm_params {threshold} {window}"));
     for Rule { pattern, action, qos, rate } in rules {
         fresh.answer(&format!("add_rule {} {action} {qos} {rate}", hex(pattern)));
     }
-    fresh.monitor
+    fresh
 }
