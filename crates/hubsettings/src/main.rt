@@ -1,6 +1,6 @@
 // hubsettings: a settings text on standard input, what it sets on standard output, in words (request C-13); or that text in another form (request C-18). All of the work is `tell_settings` and
-// `turn_settings` of `settings::told`; here are only the two buffers and the way in and out. That what is told is whole is promised by `answer` and `turn`; what `read` and `write` move is the C library's
-// word.
+// `turn_settings` of `settings::told`; here are only the two buffers and the way in and out. That what is told is whole is promised by `answer` and `turn`; what `read` and `write` move is the C
+// library's word.
 // A program has no exit status of its own: it says on standard error what failed, and nothing where nothing did. `bin/hubsettings` makes a status of that. A text that is refused in the form that is
 // asked for is said there too, by number and line, so that nothing on standard output can be taken for settings.
 pub mod asked;

@@ -1,5 +1,5 @@
--- A settings text in another form and home again: what specs/HomeAgain.antt claims. What is written in a form of the monitor that a text loads to is the text of the same settings in that form, which is
--- accepted; and back in its own form it is the first text. Assumes nothing.
+-- A settings text in another form and home again: what specs/HomeAgain.antt claims. What is written in a form of the monitor that a text loads to is the text of the same settings in that form, which
+-- is accepted; and back in its own form it is the first text. Assumes nothing.
 use Prim.Native.Nat.{ℕ, _+_, _≤_}
 use mathlib.Core.Path.{_≡_, refl, sym, ap, _∙_}
 use mathlib.Core.Bool.{true}

@@ -1,6 +1,6 @@
 -- Requests C-13 and C-18: settings as text, in the lines' order: `form=1|2`, `default=`, in form 2 `match=port|standard`, `threshold=` 2..16, `window=` 1000000..600000000, `rules=`, then rule groups
--- as in the trace. `settingsForm` is the whole of it, text and reader; `settingsOf` is what a text gives. Refusals stand where the lines do: 27 for a text that is too long; of each line 26, 21 and then
--- its own; 29 where `form=` names no form that is known; 35, 9 or 36 at a rule's last line; 21 or 26 for what stands after the last line.
+-- as in the trace. `settingsForm` is the whole of it, text and reader; `settingsOf` is what a text gives. Refusals stand where the lines do: 27 for a text that is too long; of each line 26, 21 and
+-- then its own; 29 where `form=` names no form that is known; 35, 9 or 36 at a rule's last line; 21 or 26 for what stands after the last line.
 -- The form is one of the settings: a text keeps its own. Form 1 has no line for the matcher, and means port.
 -- Assumes nothing.
 use mathlib.Core.Bool.{Bool, cond, _&&_, _||_}

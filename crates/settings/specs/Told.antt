@@ -1,5 +1,5 @@
--- What a settings text sets, in words for a person: how it ended and at which line, as the closing lines of a trace say it; of a text that was read then its form, what the default does, how rules match,
--- when a CONNECT is denied, and each rule with its pattern as text and in hex. Of a text that was refused the two lines are all.
+-- What a settings text sets, in words for a person: how it ended and at which line, as the closing lines of a trace say it; of a text that was read then its form, what the default does, how rules
+-- match, when a CONNECT is denied, and each rule with its pattern as text and in hex. Of a text that was refused the two lines are all.
 -- Assumes nothing.
 use mathlib.Core.Bool.{cond}
 use mathlib.Core.List.{List, [], _∷_, _++_, map}

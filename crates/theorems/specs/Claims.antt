@@ -63,9 +63,9 @@ pub record Claims : Type 0 where
   pub looped : LoopLimits
   -- what is read of a trace's text is the same for either matcher: rules, messages, end and line
   pub read-alike : ReadAlike
-  -- SETTINGS (requests C-13 and C-18): what was written of any state that calls handed out loads to the same settings, field by field, the matcher among them, and any accepted text is written back byte
-  -- for byte; so accepted texts and settings correspond one to one. A text of form 1 goes to form 2 and back to the same bytes, and so does one of form 2 that says port to form 1 and back; 37 refuses
-  -- exactly those that say standard. A loaded monitor is one that calls make, and demand 3 holds from it
+  -- SETTINGS (requests C-13 and C-18): what was written of any state that calls handed out loads to the same settings, field by field, the matcher among them, and any accepted text is written back
+  -- byte for byte; so accepted texts and settings correspond one to one. A text of form 1 goes to form 2 and back to the same bytes, and so does one of form 2 that says port to form 1 and back; 37
+  -- refuses exactly those that say standard. A loaded monitor is one that calls make, and demand 3 holds from it
   pub settings : SavedSettings
   -- A MONITOR'S MATCHER is the one that its constructor chose: every call keeps it, runs take it throughout, and by it the rules are chosen level by level
   pub chosen : Chosen

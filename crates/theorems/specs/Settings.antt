@@ -1,5 +1,5 @@
--- Requests C-13 and C-18: what is claimed of settings that come back after a power cut. Accepted texts and settings correspond one to one (`settings`' specs/OneToOne.antt), a text goes into another form
--- and comes home (specs/HomeAgain.antt), a loaded monitor is one that calls make, and demand 3 holds from it as from any fresh monitor with rules. The proofs are in proofs/Settings.antt.
+-- Requests C-13 and C-18: what is claimed of settings that come back after a power cut. Accepted texts and settings correspond one to one (`settings`' specs/OneToOne.antt), a text goes into another
+-- form and comes home (specs/HomeAgain.antt), a loaded monitor is one that calls make, and demand 3 holds from it as from any fresh monitor with rules. The proofs are in proofs/Settings.antt.
 -- Assumes nothing.
 use mathlib.Core.List.{List}
 use Prim.Native.Nat.{ℕ}

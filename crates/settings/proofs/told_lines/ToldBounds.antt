@@ -51,7 +51,8 @@ policies = bytes ", any QoS|, alert below QoS 0|, alert below QoS 1|, alert belo
 module _ (form : ℕ) (default : TopicAction) (matching : Matching) (threshold window rules : ℕ) where
   head-length : length (headTold form default matching threshold window rules)
       ≡ length (numberLine (bytes "A settings text of form ") form) + length (wordLine (bytes "A topic that no rule matches is ") (bytes "allowed|blocked") (actionNumber default))
-      + length (wordLine (bytes "Rules match ") matchers (matchingNumber matching)) + length (connectTold threshold window) + length (numberLine (bytes "Rules, of which the first that matches decides: ") rules)
+      + length (wordLine (bytes "Rules match ") matchers (matchingNumber matching)) + length (connectTold threshold window)
+      + length (numberLine (bytes "Rules, of which the first that matches decides: ") rules)
   unfolding headTold
   head-length = simp length-append
 
