@@ -1,7 +1,7 @@
 -- What stops a form has a number from 1 to some k. It is above 0, so that a number of 0 says that it was read: whoever hands number and line on from group to group asks for it. And none is above k,
 -- so that a number above it is another test's. Assumes nothing.
 use Prim.Native.Nat.{ℕ, zero, suc, _+_, _≤_}
-use mathlib.Core.Path.{_≡_, refl, sym, _∙_}
+use mathlib.Core.Path.{_≡_, refl}
 use mathlib.Core.List.{List, [], _∷_, _++_}
 use native.Mathlib.Omega.{arith}
 use lib.Dec.{eqb, leb}

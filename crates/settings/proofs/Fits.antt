@@ -6,12 +6,11 @@ use mathlib.Core.List.{List, [], _∷_, _++_, map}
 use native.Mathlib.Omega.{arith}
 use lib.ListN.{length, getD, take, drop, replicate, length-append, length-take, length-map, length-replicate, getD-replicate, List·getD-map, List·getD-append, take-append-drop}
 use lib.Seq.{getD-take, take-take, length-take-le, ext-getD, getD-append-add, take-all}
-use borrow.Author.Tests.{eqb-true}
 use Rattle.laws.proofs.Cases.{by-le}
 use Rattle.laws.proofs.Every.{every-first}
 use Rattle.slices.specs.Bytes.{bytes, same}
 use Rattle.lines.specs.Word.{firstWord, restWords}
-use Rattle.forms.specs.Form.{FitAll, numberForm, wordForm, hexForm, pairForm, mapForm, testForm, manyForm, numberedForm}
+use Rattle.forms.specs.Form.{FitAll, numberForm, wordForm, hexForm, pairForm, mapForm, testForm, manyForm}
 use Rattle.forms.proofs.FormRound.{each-fits}
 use Rattle.tables.specs.Rules.{patternOf, ruleFine, emptyRule, noRule}
 use Rattle.tables.specs.declared.rules.QosPolicy.{QosPolicy}

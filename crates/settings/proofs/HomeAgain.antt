@@ -7,11 +7,10 @@ use mathlib.Core.List.{List}
 use native.Mathlib.Omega.{arith}
 use lib.Dec.{eqb, leb}
 use lib.ListN.{length}
-use borrow.Author.Tests.{eq-eqb, ne-eqb, le-leb, eqb-true, eqb-false}
+use borrow.Author.Tests.{ne-eqb, le-leb}
 use Rattle.laws.specs.Lists.{every}
 use Rattle.laws.proofs.Cases.{by}
 use Rattle.slices.specs.Bytes.{bytes, same}
-use Rattle.topics.specs.declared.matching.Matching.{Matching}
 use Rattle.topics.specs.declared.matching.Matching.the-variants.{Port, Standard}
 use Rattle.lines.specs.Field.{wordField}
 use Rattle.lines.specs.Line.{wordLine}
@@ -21,17 +20,16 @@ use Rattle.forms.specs.Form.{Took, took, stopped, onTook, renumbered, wordForm,
 use Rattle.forms.specs.Stands.{Stands}
 use Rattle.forms.proofs.FieldRound.{word-not-there}
 use Rattle.forms.proofs.StandsLaws.{stands-first, stands-whole}
-use Rattle.monitor.specs.Calls.{fresh}
 use Rattle.monitor.specs.Sound.{Sound}
 use Rattle.monitor.specs.State.{wellFormed}
 use Rattle.monitor.specs.declared.state.MqttMonitor.{MqttMonitor}
-use Rattle.settings.specs.Convert.{formMeant, lineFor, endAt, convertedEnd, convertEnd, convertedKept, convertKept, inForm}
+use Rattle.settings.specs.Convert.{formMeant, endAt, convertedEnd, convertEnd, convertedKept, convertKept, inForm}
 use Rattle.settings.specs.HomeAgain.{Turns, ComesHome, SaysStandard, HomeAgain}
 use Rattle.settings.specs.Loaded.{settingsText, textRefusal, unwritten, lengthOf, fitted, writtenOf, textKept, monitorOf}
 use Rattle.settings.specs.OneToOne.{Accepted}
-use Rattle.settings.specs.SettingsText.{Settings, formAmong, formForm, formRefusal, matchIn, bodyIn, headLines, settingsLines, settingsForm, settingsOf}
+use Rattle.settings.specs.SettingsText.{Settings, formAmong, formForm, formRefusal, bodyIn, headLines, settingsLines, settingsForm, settingsOf}
 use Rattle.settings.proofs.FormLaws.{by-form, taken-known, one-port, port-taken, two-taken, form-fits, match-fits, refused-37}
-use Rattle.settings.proofs.OneToOne.{settings-are, room-enough, a-text, whole, matches-as, sound, form-takes}
+use Rattle.settings.proofs.OneToOne.{settings-are, room-enough, a-text, whole, matches, sound, form-takes}
 use Rattle.settings.proofs.SettingsRound.{settings-back, settings-real}
 
 -- settings fit in every form that is not refused for them
@@ -52,7 +50,7 @@ module _ (s : List ℕ) {v : Settings} {l : ℕ} (e : Accepted s v l) where
     text-in = ap (λ (x : Settings). settingsForm .text x) (settings-are g v (settings-back s e .1))
 
     pub written-in : (n : ℕ) → length other ≤ n → writtenOf g (monitorOf v) n ≡ record { number = 0; length = length other }
-    written-in n h = rw text-in at (room-enough g (monitorOf v) n (sound s e .formed) (matches-as v g k) (rw text-in h))
+    written-in n h = rw text-in at (room-enough g (monitorOf v) n (sound s e .formed) (rw (matches v) k) (rw text-in h))
 
     meant : formMeant g (v .form) ≡ g
     meant = by-form g (taken-known g (v .matching) k) (λ q. rw q) (λ q. rw q)
@@ -93,12 +91,16 @@ pub form-refused : (g : ℕ) (m : MqttMonitor) (room : ℕ) {n : ℕ} → wellFo
 unfolding writtenOf fitted lengthOf textRefusal
 form-refused g m room {n} f e z = rw (f, e, ne-eqb n 0 z, le-leb 0 room (omega arith))
 
+writes-37 : (m : MqttMonitor) (room : ℕ) → wellFormed m ≡ true → m .matching ≡ Standard → writtenOf 1 m room ≡ unwritten 37
+unfolding formRefusal
+writes-37 m room f e = form-refused 1 m room {n = 37} f (rw e) (λ z. omega arith)
+
 says-37 : (s : List ℕ) (room : ℕ) {l : ℕ} → SaysStandard s l → convertEnd 1 room s ≡ record { number = 37; line = l; length = 0 }
-unfolding convertEnd convertedEnd endAt monitorOf fresh formRefusal
+unfolding convertEnd convertedEnd endAt
 says-37 s room x =
     let v = x .settings in
     let e = x .accepted in
-    rw (e, convertedEnd, form-refused 1 (monitorOf v) room {n = 37} (sound s e .formed) (rw (x .standard)) (λ z. omega arith))
+    rw (e, convertedEnd, writes-37 (monitorOf v) room (sound s e .formed) (matches v ∙ x .standard))
 
 -- a writing ends in 37 only where that refuses the form
 written-37 : (g : ℕ) (m : MqttMonitor) (room : ℕ) → wellFormed m ≡ true → writtenOf g m room .number ≡ 37 → formRefusal g (m .matching) ≡ 37
@@ -126,10 +128,6 @@ form-2 s {v} e m =
     by-form (v .form) (taken-known (v .form) (v .matching) (form-takes s e))
     (λ o. absurd (let q : 37 ≡ 0 = rw (o, m) at (form-takes s e) in omega arith))
     (λ o. o)
-
-pub matches : (v : Settings) → monitorOf v .matching ≡ v .matching
-unfolding monitorOf fresh
-matches v = refl
 
 only-from : (s : List ℕ) (form room : ℕ) (t : Took Settings) → settingsOf s ≡ t → convertedEnd form room t .number ≡ 37 → (form ≡ 1) × SaysStandard s (convertedEnd form room t .line)
 unfolding convertedEnd endAt
@@ -182,6 +180,7 @@ home-again =
       own-form = own-form;
       says-37 = says-37;
       only-37 = only-37;
+      writes-37 = writes-37;
       nothing-written = nothing-written;
       older-hubs = older-hubs;
     }

@@ -151,9 +151,9 @@ longest s {v} e = let b = settings-back s e in rw (b .0) at (settings-short v (b
 -- LOADED MONITORS
 
 -- a monitor with some settings has their matcher
-pub matches-as : (v : Settings) (form : ℕ) → formRefusal form (v .matching) ≡ 0 → formRefusal form (monitorOf v .matching) ≡ 0
+pub matches : (v : Settings) → monitorOf v .matching ≡ v .matching
 unfolding monitorOf fresh
-matches-as v form e = e
+matches v = refl
 
 module _ (s : List ℕ) {v : Settings} {l : ℕ} (e : Accepted s v l) where
   fits : settingsForm .fits v
@@ -177,7 +177,7 @@ module _ (s : List ℕ) {v : Settings} {l : ℕ} (e : Accepted s v l) where
   written : (n : ℕ) → length s ≤ n → writtenOf (v .form) (monitorOf v) n ≡ record { number = 0; length = length s }
   written n h =
       let t = loaded-written s e in
-      rw t at (room-enough (v .form) (monitorOf v) n (sound .formed) (matches-as v (v .form) form-takes) (rw t h))
+      rw t at (room-enough (v .form) (monitorOf v) n (sound .formed) (rw (matches v) form-takes) (rw t h))
 
   given-back : (d : List ℕ) → length s ≤ length d → (convertEnd 0 (length d) s ≡ record { number = 0; line = l; length = length s }) × (convertKept 0 d s ≡ sets d 0 s)
   unfolding convertEnd convertedEnd endAt convertKept convertedKept textKept

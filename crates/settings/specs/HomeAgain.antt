@@ -1,5 +1,6 @@
 -- What is claimed of a settings text in another form (request C-18), over whole texts and of `convert_settings` as it answers. The proofs are in proofs/HomeAgain.antt.
 -- Assumes nothing.
+use mathlib.Core.Bool.{true}
 use mathlib.Core.List.{List}
 use mathlib.Core.Path.{_≡_}
 use Prim.Native.Nat.{ℕ, _≤_}
@@ -8,8 +9,10 @@ use lib.Seq.{sets}
 use Rattle.slices.specs.Bytes.{bytes}
 use Rattle.topics.specs.declared.matching.Matching.the-variants.{Port, Standard}
 use Rattle.forms.specs.Form.{stopped}
+use Rattle.monitor.specs.State.{wellFormed}
+use Rattle.monitor.specs.declared.state.MqttMonitor.{MqttMonitor}
 use Rattle.settings.specs.Convert.{convertEnd, convertKept, inForm}
-use Rattle.settings.specs.Loaded.{monitorOf}
+use Rattle.settings.specs.Loaded.{unwritten, writtenOf, monitorOf}
 use Rattle.settings.specs.OneToOne.{Accepted}
 use Rattle.settings.specs.SettingsText.{Settings, formAmong}
 
@@ -48,6 +51,8 @@ pub record HomeAgain : Type 0 where
   -- 37 exactly for an accepted text of form 2 that says standard, asked for in form 1: at its last line, with room or without
   pub says-37 : (s : List ℕ) (room : ℕ) {line : ℕ} → SaysStandard s line → convertEnd 1 room s ≡ record { number = 37; line = line; length = 0 }
   pub only-37 : (s : List ℕ) (form room : ℕ) → convertEnd form room s .number ≡ 37 → (form ≡ 1) × SaysStandard s (convertEnd form room s .line)
+  -- so is a monitor that matches by the standard, where it is to be written in form 1: after 10, and before 28
+  pub writes-37 : (m : MqttMonitor) (room : ℕ) → wellFormed m ≡ true → m .matching ≡ Standard → writtenOf 1 m room ≡ unwritten 37
   -- whatever refuses a text, nothing is written
   pub nothing-written : (s d : List ℕ) (form : ℕ) → (convertEnd form (length d) s .number ≡ 0 → ⊥) → convertKept form d s ≡ d
   -- a hub that knows form 1 alone, as all did before this request, refuses every text of form 2 at its first line, with 29

@@ -1,7 +1,7 @@
 -- A text in another form, as it is handed to a person: the lent buffer has room for every text of every form, so that what the conversion wrote is all of it; where the conversion refused the text it
 -- left the buffer as it was, and the two closing lines are written there. Assumes nothing.
 use Prim.Native.Nat.{ℕ, _≤_, _<_}
-use mathlib.Core.Path.{_≡_, refl, sym, _∙_}
+use mathlib.Core.Path.{_≡_, refl, _∙_}
 use mathlib.Core.List.{List}
 use native.Mathlib.Omega.{arith}
 use borrow.Author.Tests.{eqb-true, eqb-false, le-leb}
@@ -12,14 +12,14 @@ use Rattle.laws.proofs.Cases.{by}
 use Rattle.lines.specs.Wrote.{Wrote}
 use Rattle.lines.proofs.put.WroteLaws.{wrote-room}
 use Rattle.forms.specs.Form.{Took, took, stopped}
-use Rattle.settings.specs.Convert.{formMeant, lineFor, endAt, convertedEnd, convertEnd, convertedKept, convertKept, inForm}
+use Rattle.settings.specs.Convert.{formMeant, endAt, convertedEnd, convertEnd, convertedKept, convertKept, inForm}
 use Rattle.settings.specs.Loaded.{textKept, monitorOf}
 use Rattle.settings.specs.SettingsText.{Settings, formRefusal, settingsForm, settingsOf}
 use Rattle.settings.specs.Told.{closingTold, turnedOf, turnedText, turnedAs, toldRoom, turnedEnd, turnedKept}
 use Rattle.settings.specs.declared.convert.SettingsEnd.{SettingsEnd}
 use Rattle.settings.specs.declared.told.SettingsTold.{SettingsTold}
-use Rattle.settings.proofs.HomeAgain.{in-form-fits, text-in, written-in, form-refused, matches, nothing-written}
-use Rattle.settings.proofs.OneToOne.{settings-short, longest-at-most, whole, sound}
+use Rattle.settings.proofs.HomeAgain.{in-form-fits, text-in, written-in, form-refused, nothing-written}
+use Rattle.settings.proofs.OneToOne.{settings-short, longest-at-most, whole, matches, sound}
 use Rattle.settings.proofs.SettingsRound.{settings-back, settings-real}
 use Rattle.settings.proofs.told.TellLaws.{says-nothing, says-all}
 
@@ -44,11 +44,8 @@ module _ (s d : List ℕ) (form : ℕ) (h : 16384 ≤ length d) where
       record { ended = λ j. rw (w, k); written = λ z. (rw (w, k, text-in s e g k), (rw (w, k), rw k n)); refused = λ z. absurd (z (rw w)) })
       (λ t.
       let z = eqb-false (formRefusal g (v .matching)) 0 t in
-      let w = form-refused g (monitorOf v) (length d) (sound s e .formed) (matches-refusal v g) z in
+      let w = form-refused g (monitorOf v) (length d) (sound s e .formed) (rw (matches v)) z in
       record { ended = λ j. rw w; written = λ y. absurd (z (rw w at y)); refused = λ y. rw (w, t) })
-    where
-      matches-refusal : (v : Settings) (g : ℕ) → formRefusal g (monitorOf v .matching) ≡ formRefusal g (v .matching)
-      matches-refusal v g = rw (matches v)
   handed-from (stopped n l) q =
       let r = settings-real s n l q .0 in
       record { ended = λ k. refl; written = λ z. absurd (r z); refused = λ z. refl }

@@ -1,5 +1,5 @@
 -- `settings::write::form_refusal` meets its contract: by the form, and for the first one by the matcher. Assumes nothing.
-use borrow.Author.Tests.{eq-eqb, ne-eqb}
+use borrow.Author.Tests.{ne-eqb}
 use borrow.Author.Needs.{needs}
 use Rattle.settings.specs.SettingsText.{formRefusal}
 use Rattle.settings.proofs.write.form_refusal.Statement.{statement}
