@@ -17,12 +17,13 @@ formLine s =
     let f = wordAfter s (begun 0) 0 (bytes "form=") (bytes "1|2") in
     cond (eqb (f .number) 23) (numbered29 f) f
 
--- `match=`, after the form at some place and the line before it: the second form has it, and is a line longer; in the first one the line before stays the last, with the value that means port
+-- `match=`, by the place of the form among the words and after the line before it: the second form has it, and is a line longer; in the first one the line before stays the last, with the value that
+-- means port
 abbrev pub asPort : Lined → Lined
 asPort b = record { number = b .number; line = b .line; value = 0; from = b .from; to = b .to; next = b .next }
 
 unfoldable pub matchLine : List ℕ → ℕ → Lined → Lined
-matchLine s form before = cond (eqb form 1) (wordAfter s before 2 (bytes "match=") (bytes "port|standard")) (after before (asPort before))
+matchLine s place before = cond (eqb place 1) (wordAfter s before 2 (bytes "match=") (bytes "port|standard")) (after before (asPort before))
 
 unfoldable pub linesMore : ℕ → ℕ
-linesMore form = cond (eqb form 1) 1 0
+linesMore place = cond (eqb place 1) 1 0

@@ -52,11 +52,11 @@ fn form_line(text: &[u8]) -> Lined
     }
 }
 
-// `match=`, which the second form has; in the first one the line before it stays the last.
-fn match_line(text: &[u8], form: u64, before: Lined) -> Lined
-    ensures { λ r. ⌜ r ≡ matchLine (now (text .entry)) form before ⌝ }
+// `match=`, which the second form has; in the first one the line before it stays the last. The form is told by its place among the words.
+fn match_line(text: &[u8], place: u64, before: Lined) -> Lined
+    ensures { λ r. ⌜ r ≡ matchLine (now (text .entry)) place before ⌝ }
 {
-    if form == 1 {
+    if place == 1 {
         return word_after(text, before, 2, b"match=", b"port|standard");
     }
     if before.number != 0 {
@@ -72,12 +72,12 @@ fn match_line(text: &[u8], form: u64, before: Lined) -> Lined
     }
 }
 
-// How many lines more a form has than the first one.
-fn lines_more(form: u64) -> u32
-    ensures { λ r. ⌜ r ≡ linesMore form ⌝ }
+// How many lines more a form has than the first one, by its place.
+fn lines_more(place: u64) -> u32
+    ensures { λ r. ⌜ r ≡ linesMore place ⌝ }
     ensures few { λ r. ⌜ r ≤ 1 ⌝ }
 {
-    if form == 1 {
+    if place == 1 {
         return 1;
     }
     0
