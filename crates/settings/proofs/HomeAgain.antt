@@ -55,20 +55,16 @@ module _ (s : List ℕ) {v : Settings} {l : ℕ} (e : Accepted s v l) where
     meant : formMeant g (v .form) ≡ g
     meant = by-form g (taken-known g (v .matching) k) (λ q. rw q) (λ q. rw q)
 
-    turns : Turns g s other
+    turns : Turns g s l other
     unfolding convertEnd convertedEnd endAt convertKept convertedKept textKept
-    turns =
-        record {
-          last-line = l;
-          turned = λ d h. (rw (e, convertedEnd, meant, written-in (length d) h), rw (e, convertedKept, meant, written-in (length d) h, text-in));
-        }
+    turns = record { turned = λ d h. (rw (e, convertedEnd, meant, written-in (length d) h), rw (e, convertedKept, meant, written-in (length d) h, text-in)) }
 
   -- in its own form that is the text itself
-  own-form : Turns (v .form) s s
+  own-form : Turns (v .form) s l s
   own-form = rw (settings-back s e .0) at (turns (v .form) (form-takes s e))
 
 -- and from any form it comes home
-comes-home : (s : List ℕ) {v : Settings} {l : ℕ} → Accepted s v l → (g : ℕ) → formRefusal g (v .matching) ≡ 0 → ComesHome g s v
+comes-home : (s : List ℕ) {v : Settings} {l : ℕ} → Accepted s v l → (g : ℕ) → formRefusal g (v .matching) ≡ 0 → ComesHome g s v l
 unfolding monitorOf
 comes-home s {v} e g k =
     let a = a-text (inForm g v) (in-form-fits g v k (settings-back s e .1)) in
@@ -113,21 +109,17 @@ written-37 g m room f e =
     (λ u. absurd (let q : 28 ≡ 37 = rw (f, t, u) at e in omega arith)))
     (λ t. rw (f, t, le-leb 0 room (omega arith)) at e)
 
--- asked for in its own form, 0, a text is never refused by it
-meant-1 : (s : List ℕ) {v : Settings} {l : ℕ} → Accepted s v l → v .matching ≡ Standard → (form : ℕ) → formMeant form (v .form) ≡ 1 → form ≡ 1
+-- a text that says standard is not of form 1
+not-form-1 : (s : List ℕ) {v : Settings} {l : ℕ} → Accepted s v l → v .matching ≡ Standard → v .form ≡ 1 → ⊥
 unfolding formRefusal
-meant-1 s {v} e m form h =
-    by (eqb form 0)
-    (λ t. let o : v .form ≡ 1 = rw t at h in absurd (let q : 37 ≡ 0 = rw (o, m) at (form-takes s e) in omega arith))
-    (λ t. rw t at h)
+not-form-1 s e m o = let q : _≡_ {A = ℕ} 37 0 = rw (o, m) at (form-takes s e) in omega arith
 
--- a text that says standard is of form 2
+-- so it is of form 2, and 0, its own form, is not the one that 37 refuses
 form-2 : (s : List ℕ) {v : Settings} {l : ℕ} → Accepted s v l → v .matching ≡ Standard → v .form ≡ 2
-unfolding formRefusal
-form-2 s {v} e m =
-    by-form (v .form) (taken-known (v .form) (v .matching) (form-takes s e))
-    (λ o. absurd (let q : 37 ≡ 0 = rw (o, m) at (form-takes s e) in omega arith))
-    (λ o. o)
+form-2 s {v} e m = by-form (v .form) (taken-known (v .form) (v .matching) (form-takes s e)) (λ o. absurd (not-form-1 s e m o)) (λ o. o)
+
+meant-1 : (s : List ℕ) {v : Settings} {l : ℕ} → Accepted s v l → v .matching ≡ Standard → (form : ℕ) → formMeant form (v .form) ≡ 1 → form ≡ 1
+meant-1 s e m form h = by (eqb form 0) (λ t. absurd (not-form-1 s e m (rw t at h))) (λ t. rw t at h)
 
 only-from : (s : List ℕ) (form room : ℕ) (t : Took Settings) → settingsOf s ≡ t → convertedEnd form room t .number ≡ 37 → (form ≡ 1) × SaysStandard s (convertedEnd form room t .line)
 unfolding convertedEnd endAt
