@@ -1,0 +1,12 @@
+pub mod Bodies
+pub mod Connect
+pub mod Fields
+pub mod Filters
+pub mod Header
+pub mod Messages
+pub mod Missing
+pub mod Packet
+pub mod Piece
+pub mod Publish
+pub mod Steps
+pub mod Taken
