@@ -1,4 +1,4 @@
-//! The exports of the archives of hub, desk and boot, as safe functions on slices. The C declarations stand in
+//! The exports of the archives of hub, desk, boot and jack, as safe functions on slices. The C declarations stand in
 //! include/hub.h; a slice crosses as pointer and length, and a Rust slice always meets the duties named there.
 
 /// The two hashes that tell clients apart.
@@ -29,8 +29,27 @@ pub struct HubSettings {
     pub length: usize,
 }
 
+/// What stands at a place: 0, a whole packet's length from its first byte and how many messages it gives; or the number of
+/// its refusal, 0 and 0.
+#[repr(C)]
+#[derive(Clone, Copy, Debug, PartialEq, Eq)]
+pub struct HubPacket {
+    pub number: u32,
+    pub length: usize,
+    pub messages: usize,
+}
+
+/// How a packet's messages were written: 0 and how many bytes were written; or a number and 0. The line is always 0.
+#[repr(C)]
+#[derive(Clone, Copy, Debug, PartialEq, Eq)]
+pub struct HubPacketLines {
+    pub number: u32,
+    pub line: u64,
+    pub length: usize,
+}
+
 mod raw {
-    use super::{HubClientHashes, HubSettings, HubTrace};
+    use super::{HubClientHashes, HubPacket, HubPacketLines, HubSettings, HubTrace};
 
     #[rustfmt::skip]
     unsafe extern "C" {
@@ -54,6 +73,9 @@ mod raw {
         pub fn hub_settings(text: *const u8, text_len: usize, form: u32, out: *mut u8, out_len: usize) -> HubSettings;
         pub fn hub_standing(text: *const u8, text_len: usize, out: *mut u8, out_len: usize) -> HubTrace;
         pub fn hub_standing_standard(text: *const u8, text_len: usize, out: *mut u8, out_len: usize) -> HubTrace;
+        pub fn hub_packet(bytes: *const u8, bytes_len: usize, place: usize) -> HubPacket;
+        pub fn hub_packet_lines(bytes: *const u8, bytes_len: usize, place: usize, at: u64, clock_ok: bool,
+            out: *mut u8, out_len: usize) -> HubPacketLines;
     }
 }
 
@@ -180,4 +202,18 @@ pub fn standing(text: &[u8], out: &mut [u8]) -> HubTrace {
 #[inline]
 pub fn standing_standard(text: &[u8], out: &mut [u8]) -> HubTrace {
     unsafe { raw::hub_standing_standard(text.as_ptr(), text.len(), out.as_mut_ptr(), out.len()) }
+}
+
+/// The MQTT packet at a place, which may be any number. Refuses one of which bytes are missing with 31, one that breaks MQTT
+/// 3.1.1 with 32, and one with a topic, filter or client id over 128 bytes with 33.
+#[inline]
+pub fn packet(bytes: &[u8], place: usize) -> HubPacket {
+    unsafe { raw::hub_packet(bytes.as_ptr(), bytes.len(), place) }
+}
+
+/// The messages of the packet at a place, as lines of a trace with this time and verdict, into the front of `out`. Refuses
+/// what `packet` does, and an `out` that is too short with 28. Nothing is then written.
+#[inline]
+pub fn packet_lines(bytes: &[u8], place: usize, at: u64, clock_ok: bool, out: &mut [u8]) -> HubPacketLines {
+    unsafe { raw::hub_packet_lines(bytes.as_ptr(), bytes.len(), place, at, clock_ok, out.as_mut_ptr(), out.len()) }
 }
