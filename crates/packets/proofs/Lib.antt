@@ -1,0 +1,2 @@
+pub mod Missing
+pub mod Steps

@@ -11,7 +11,7 @@ use Rattle.packets.specs.Filters.{filterAt, walk}
 use Rattle.packets.specs.Piece.{goodPiece, isLong}
 use Rattle.packets.specs.declared.bodies.Looked.{Looked}
 use Rattle.packets.specs.declared.piece.Piece.{Piece}
-use Rattle.packets.proofs.filters.WalkLaws.{filter-in, left-turn, left-last, left-end}
+use Rattle.packets.proofs.filters.WalkLaws.{filter-further, left-turn, left-last, left-end}
 
 -- what was seen, and the pieces that are left
 abbrev pub lookedOver : List ℕ → Looked → List Piece → Looked
@@ -43,8 +43,8 @@ look-first b ps = looked refl refl (omega arith)
 
 -- the loop over filters
 module _ (subscribe : Bool) (b : List ℕ) where
-  further : (at : ℕ) → filterAt subscribe b at .fine ≡ true → at < filterAt subscribe b at .next
-  further at u = let h = filter-in subscribe b at .further u in omega arith
+  abbrev further : (at : ℕ) → filterAt subscribe b at .fine ≡ true → at < filterAt subscribe b at .next
+  further = filter-further subscribe b
 
   -- the filters that are left at a place
   abbrev pub filtersLeft : ℕ → List Piece

@@ -60,6 +60,10 @@ module _ (subscribe : Bool) (b : List ℕ) (at : ℕ) {f q : Field} (e : f ≡ d
   pub filter-good-in : FilterIn b at (pieceOf (q .value) (f .from) (f .next) (length b) (q .next))
   filter-good-in = rw filter-good (filter-in subscribe b at)
 
+-- the next one begins further on
+pub filter-further : (subscribe : Bool) (b : List ℕ) (at : ℕ) → filterAt subscribe b at .fine ≡ true → at < filterAt subscribe b at .next
+filter-further subscribe b at u = let h = filter-in subscribe b at .further u in omega arith
+
 -- a reader whose pieces take a byte at least
 module _ (read : ℕ → Piece) (end : ℕ) (further : (at : ℕ) → read at .fine ≡ true → at < read at .next) where
   step : (k j at : ℕ) → ((t : ℕ) → end - t < end - at → walk read k end t ≡ walk read j end t) → walk read (suc k) end at ≡ walk read (suc j) end at

@@ -6,7 +6,8 @@ use Prim.Native.Nat.{ℕ, _≤_}
 use native.Mathlib.Omega.{arith}
 use lib.Dec.{eqb}
 use lib.ListN.{length, drop, drop-of-length-le}
-use borrow.Author.Tests.{ne-eqb}
+use borrow.Author.Tests.{eqb-true, ne-eqb}
+use Rattle.laws.proofs.Cases.{choose}
 use Rattle.laws.specs.Lists.{every, some}
 use Rattle.lines.specs.Span.{part}
 use Rattle.packets.specs.Bodies.{bodyBuilt, piecesOf, firstStep, lookedAt}
@@ -38,21 +39,36 @@ module _ (kind flags : ℕ) (b : List ℕ) where
       unfolding bodyRefusal
       body-fine v = rw (t, rw g at u, rw g at v)
 
+-- a body is not 31
+pub body-not-31 : (kind flags : ℕ) (b : List ℕ) → bodyRefusal kind flags b ≡ 31 → ⊥
+unfolding bodyRefusal
+body-not-31 kind flags b =
+    let P : ℕ → Type 0 = λ (n : ℕ). n ≡ 31 → ⊥ in
+    choose P (bodyBuilt kind flags b && every (goodPiece b) (piecesOf kind flags b))
+    (λ _. choose P (some isLong (piecesOf kind flags b)) (λ _ e. omega arith) (λ _ e. omega arith))
+    (λ _ e. omega arith)
+
 -- each way through a packet
 module _ (s : List ℕ) where
-  by-header : headerRefusal s ≡ 0 → packetRefusal s ≡ bodyRefusal (typeOf s) (flagsOf s) (bodyIn s)
+  pub by-header : headerRefusal s ≡ 0 → packetRefusal s ≡ bodyRefusal (typeOf s) (flagsOf s) (bodyIn s)
   unfolding packetRefusal
   by-header z = rw z
 
-  refused-by : {n : ℕ} → packetRefusal s ≡ n → (n ≡ 0 → ⊥) → refusedPacket n ≡ packetOf s
+  pub refused-by : {n : ℕ} → packetRefusal s ≡ n → (n ≡ 0 → ⊥) → refusedPacket n ≡ packetOf s
   unfolding packetOf
   refused-by r z = rw (r, ne-eqb _ 0 z)
 
-  pub unread : {h : Header} → h ≡ headerOf s → (h .number ≡ 0 → ⊥) → refusedPacket (h .number) ≡ packetOf s
+  pub header-first : {n : ℕ} → headerRefusal s ≡ n → (n ≡ 0 → ⊥) → packetRefusal s ≡ n
   unfolding packetRefusal
-  unread e z =
-      let n = number-is s e in
-      rw n (refused-by (rw (ne-eqb (headerRefusal s) 0 (λ r. z (n ∙ r)))) (λ r. z (n ∙ r)))
+  header-first e z = rw (e, ne-eqb _ 0 z)
+
+  -- its number is the refusal's
+  pub packet-number : packetOf s .number ≡ packetRefusal s
+  unfolding packetOf
+  packet-number = choose (λ (p : Packet). p .number ≡ packetRefusal s) (eqb (packetRefusal s) 0) (λ z. sym (eqb-true _ _ z)) (λ _. refl)
+
+  pub unread : {h : Header} → h ≡ headerOf s → (h .number ≡ 0 → ⊥) → refusedPacket (h .number) ≡ packetOf s
+  unread e z = let n = number-is s e in rw n (refused-by (header-first refl (λ r. z (n ∙ r))) (λ r. z (n ∙ r)))
 
   module _ {h : Header} (e : h ≡ headerOf s) (z : h .number ≡ 0) where
     abbrev read : Read s h
@@ -78,5 +94,4 @@ unfolding headerRefusal lengthAt
 header-none = refl
 
 pub packet-none : (s : List ℕ) {place : ℕ} → length s ≤ place → refusedPacket 31 ≡ packetAt s place
-unfolding packetRefusal
-packet-none s h = rw (drop-of-length-le s h) (refused-by [] (rw header-none) (λ e. absurd (omega arith)))
+packet-none s h = rw (drop-of-length-le s h) (refused-by [] (header-first [] header-none (λ e. absurd (omega arith))) (λ e. absurd (omega arith)))

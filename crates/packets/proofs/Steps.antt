@@ -1,0 +1,181 @@
+-- Stepping through a packet that is not refused gives its messages: of a list, each step is the place of the next filter, and every filter is good and short; any other packet has one piece.
+-- Assumes nothing.
+use mathlib.Core.Bool.{Bool, true, false, cond, _&&_, _||_}
+use mathlib.Core.List.{List, [], _∷_, map}
+use mathlib.Core.Path.{_≡_, refl, sym, _∙_, ap}
+use Prim.Native.Nat.{ℕ, zero, suc, _+_, _-_, _≤_, _<_}
+use native.Mathlib.Omega.{arith}
+use lib.Dec.{eqb, ltb, leb}
+use lib.ListN.{length, drop, length-map}
+use borrow.Author.Tests.{eqb-true, eqb-false, eq-eqb, ltb-true, ltb-false}
+use Rattle.laws.specs.Lists.{every, some}
+use Rattle.laws.proofs.Cases.{by, by-le, choose, clash}
+use Rattle.laws.proofs.Tests.{both, either, neither}
+use Rattle.packets.specs.Bodies.{isList, bodyBuilt, pieceAt, firstStep, piecesOf}
+use Rattle.packets.specs.Fields.{isString, begin, numberField}
+use Rattle.packets.specs.Filters.{listBuilt, filterAt, filtersOf, walk}
+use Rattle.packets.specs.Header.{lengthAt, typeOf, flagsOf, bodyFrom, sizeOf, bodyIn, headerRefusal}
+use Rattle.packets.specs.Messages.{sentFrom, pieceRefusal, messageFrom, messageFor, messageAt, messagesOf, messagesAt}
+use Rattle.packets.specs.Packet.{firstOf, bodyRefusal, packetRefusal, refusedPacket, packetOf, packetAt}
+use Rattle.packets.specs.Piece.{goodPiece, isLong}
+use Rattle.packets.specs.Publish.{identified}
+use Rattle.packets.specs.Steps.{stepped, Steps}
+use Rattle.packets.specs.declared.messages.PacketMessage.{PacketMessage}
+use Rattle.packets.specs.declared.packet.Packet.{Packet}
+use Rattle.packets.specs.declared.piece.Piece.{Piece}
+use Rattle.packets.proofs.filters.WalkLaws.{filter-further, left-turn, left-last}
+use Rattle.packets.proofs.messages.MessageLaws.{piece-fine}
+use Rattle.packets.proofs.packet.PacketLaws.{by-header, packet-number, header-first}
+
+-- what a packet that is not refused is
+pub record Accepted (s : List ℕ) : Type 0 where
+  pub header : headerRefusal s ≡ 0
+  pub built : bodyBuilt (typeOf s) (flagsOf s) (bodyIn s) ≡ true
+  pub good : every (goodPiece (bodyIn s)) (piecesOf (typeOf s) (flagsOf s) (bodyIn s)) ≡ true
+  pub short : some isLong (piecesOf (typeOf s) (flagsOf s) (bodyIn s)) ≡ false
+
+-- a body that is not refused
+body-accepted : (kind flags : ℕ) (b : List ℕ) → bodyRefusal kind flags b ≡ 0
+    → (bodyBuilt kind flags b ≡ true) × (every (goodPiece b) (piecesOf kind flags b) ≡ true) × (some isLong (piecesOf kind flags b) ≡ false)
+unfolding bodyRefusal
+body-accepted kind flags b =
+    let ps : List Piece = piecesOf kind flags b in
+    let P : ℕ → Type 0 = λ (n : ℕ). n ≡ 0 → (bodyBuilt kind flags b ≡ true) × (every (goodPiece b) ps ≡ true) × (some isLong ps ≡ false) in
+    choose P (bodyBuilt kind flags b && every (goodPiece b) ps)
+    (λ g.
+    let h = both (bodyBuilt kind flags b) (every (goodPiece b) ps) g in
+    choose P (some isLong ps) (λ _ e. absurd (omega arith)) (λ l _. (h .0, h .1, l)))
+    (λ _ e. absurd (omega arith))
+
+module _ (s : List ℕ) (e : packetOf s .number ≡ 0) where
+  pub accepted : Accepted s
+  accepted =
+      let r : packetRefusal s ≡ 0 = sym (packet-number s) ∙ e in
+      let h : headerRefusal s ≡ 0 =
+          by (eqb (headerRefusal s) 0) (eqb-true _ _) (λ f. absurd (eqb-false _ _ f (sym (header-first s refl (eqb-false _ _ f)) ∙ r))) in
+      let b = body-accepted (typeOf s) (flagsOf s) (bodyIn s) (sym (by-header s h) ∙ r) in
+      record { header = h; built = b .0; good = b .1; short = b .2 }
+
+  -- how many messages, and the first step
+  messages-are : (packetOf s .messages ≡ length (piecesOf (typeOf s) (flagsOf s) (bodyIn s))) × (packetOf s .first ≡ firstStep (typeOf s))
+  unfolding packetOf
+  messages-are = let r : packetRefusal s ≡ 0 = sym (packet-number s) ∙ e in rw r (refl, refl)
+
+-- a piece that was read and is not long
+abbrev Fit : Piece → Type 0
+Fit p = (p .fine ≡ true) × (p .to - p .from ≤ 128)
+
+fit : (b : List ℕ) (p : Piece) → goodPiece b p ≡ true → isLong p ≡ false → Fit p
+unfolding goodPiece
+fit b p g l = (both (p .fine) _ g .0, ltb-false _ _ l)
+
+-- a first message, and those behind it
+joined : {x y : PacketMessage} (behind : ℕ → List PacketMessage) {ms : List PacketMessage} → x ≡ y → behind (y .next) ≡ ms → x ∷ behind (x .next) ≡ y ∷ ms
+joined {y = y} behind e g = rw e (ap (λ (r : List PacketMessage). y ∷ r) g)
+
+-- a list that was found good has a filter behind its identifier
+list-built : (kind flags : ℕ) (b : List ℕ) → isList kind ≡ true → bodyBuilt kind flags b ≡ true → listBuilt flags b ≡ true
+unfolding bodyBuilt
+list-built kind flags b l =
+    either (eqb kind 8) (eqb kind 10) l (λ e. let k : kind ≡ 8 = eqb-true _ _ e in rw k (λ t. t)) (λ e. let k : kind ≡ 10 = eqb-true _ _ e in rw k (λ t. t))
+
+list-long : (flags : ℕ) (b : List ℕ) → listBuilt flags b ≡ true → 2 < length b
+unfolding listBuilt
+list-long flags b e = ltb-true 2 (length b) (both (eqb flags 2 && identified true (numberField b (begin 0))) (ltb 2 (length b)) e .1)
+
+-- of a list the piece at a step is the filter there
+list-piece : (kind flags : ℕ) (b : List ℕ) (step : ℕ) → isList kind ≡ true → pieceAt kind flags b step ≡ filterAt (eqb kind 8) b step
+unfolding pieceAt
+list-piece kind flags b step l =
+    either (eqb kind 8) (eqb kind 10) l (λ e. let k : kind ≡ 8 = eqb-true _ _ e in rw k) (λ e. let k : kind ≡ 10 = eqb-true _ _ e in rw k)
+
+module _ (s : List ℕ) (place «now_us» : ℕ) (ok : Bool) where
+  abbrev bytes : List ℕ
+  bytes = drop place s
+
+  abbrev kind : ℕ
+  kind = typeOf bytes
+
+  abbrev body : List ℕ
+  body = bodyIn bytes
+
+  abbrev sent : Piece → PacketMessage
+  sent p = sentFrom kind (lengthAt bytes 1 .value) (place + bodyFrom bytes) «now_us» ok p
+
+  module _ (h : headerRefusal bytes ≡ 0) where
+    -- the message of a piece that was read and is not long
+    one-message : (step : ℕ) {p : Piece} → pieceAt kind (flagsOf bytes) body step ≡ p → Fit p → messageAt s place step «now_us» ok ≡ sent p
+    unfolding messageFor messageFrom
+    one-message step {p} e f = rw (h, e, piece-fine p (f .0) (f .1))
+
+    module _ (l : isList kind ≡ true) where
+      abbrev read : ℕ → Piece
+      read = filterAt (eqb kind 8) body
+
+      -- a walk over filters that are good and short
+      walked : (k end at : ℕ) → every (goodPiece body) (walk read k end at) ≡ true → some isLong (walk read k end at) ≡ false
+          → stepped (length (walk read k end at)) s place at «now_us» ok ≡ map sent (walk read k end at)
+      unfolding walk every some stepped
+      walked zero end at = λ g f. refl
+      walked (suc k) end at =
+          let P : List Piece → Type 0 = λ (ps : List Piece).
+              every (goodPiece body) ps ≡ true → some isLong ps ≡ false → stepped (length ps) s place at «now_us» ok ≡ map sent ps in
+          choose P (leb end at) (λ _ g f. refl)
+          (λ _ g f.
+          let q = both (goodPiece body (read at)) _ g in
+          let r = neither (isLong (read at)) _ f in
+          let t = fit body (read at) (q .0) (r .0) in
+          let m = one-message at (list-piece kind (flagsOf bytes) body at l) t in
+          choose (λ (ps : List Piece). every (goodPiece body) ps ≡ true → some isLong ps ≡ false
+              → messageAt s place at «now_us» ok ∷ stepped (length ps) s place (messageAt s place at «now_us» ok .next) «now_us» ok ≡ sent (read at) ∷ map sent ps)
+          (read at .fine)
+          (λ _ g2 f2. joined (λ (next : ℕ). stepped (length (walk read k end (read at .next))) s place next «now_us» ok) m (walked k end (read at .next) g2 f2))
+          (λ u _ _. clash (t .0) u)
+          (q .1) (r .1))
+
+  module _ (e : packetAt s place .number ≡ 0) where
+    abbrev a : Accepted bytes
+    a = accepted bytes e
+
+    abbrev pieces : List Piece
+    pieces = piecesOf kind (flagsOf bytes) body
+
+    of-list : isList kind ≡ true → stepped (length pieces) s place (firstStep kind) «now_us» ok ≡ map sent pieces
+    unfolding piecesOf
+    of-list l = rw l (walked (a .header) l (length body + 1) (length body) 2 (rw l at (a .good)) (rw l at (a .short)))
+
+    of-one : isList kind ≡ false → stepped (length pieces) s place (firstStep kind) «now_us» ok ≡ map sent pieces
+    unfolding piecesOf stepped every some
+    of-one l =
+        let p = pieceAt kind (flagsOf bytes) body 0 in
+        let q = both (goodPiece body p) true (rw l at (a .good)) in
+        let r = neither (isLong p) false (rw l at (a .short)) in
+        rw (l, one-message (a .header) 0 refl (fit body p (q .0) (r .0)))
+
+    inOrder : stepped (packetAt s place .messages) s place (packetAt s place .first) «now_us» ok ≡ messagesAt s place «now_us» ok
+    unfolding messagesOf
+    inOrder = let m = messages-are bytes e in rw (m .0, m .1) (by (isList kind) of-list of-one)
+
+    counted : length (messagesAt s place «now_us» ok) ≡ packetAt s place .messages
+    unfolding messagesOf
+    counted = length-map pieces sent ∙ sym (messages-are bytes e .0)
+
+    -- a list has a filter
+    has-one : isList kind ≡ true → 1 ≤ length (filtersOf (eqb kind 8) body)
+    has-one l =
+        let n : 2 < length body = list-long (flagsOf bytes) body (list-built kind (flagsOf bytes) body l (a .built)) in
+        let read : ℕ → Piece = filterAt (eqb kind 8) body in
+        let more = filter-further (eqb kind 8) body in
+        by (read 2 .fine) (λ u. rw (left-turn read (length body) more 2 n u) (omega arith)) (λ u. rw (left-last read (length body) more 2 n u) (omega arith))
+
+    some-one : 1 ≤ packetAt s place .messages
+    unfolding piecesOf
+    some-one = rw (messages-are bytes e .0) (by (isList kind) (λ l. rw l (has-one l)) (λ l. rw l (omega arith)))
+
+pub steps : Steps
+steps =
+    record {
+      inOrder = inOrder;
+      counted = counted;
+      some = λ s place e. some-one s place 0 true e;
+    }
