@@ -1,1 +1,2 @@
 mod LookLaws
+pub mod PieceLaws

@@ -10,7 +10,6 @@ use crate::piece::no_piece;
 use slices::bytes::starts_with;
 ghost use mathlib.Core.Path.{_≡_};
 ghost use Rattle.packets.specs.Connect.{connectHead, willFlags, passwordFlag, clientNamed, connectTail, connectBuilt, connectPiece};
-ghost use Rattle.packets.specs.Piece.{PieceIn};
 
 // The level of MQTT 3.1.1.
 const LEVEL: u8 = 4;
@@ -93,7 +92,6 @@ pub fn connect_built(flags: u8, b: &[u8]) -> bool
 // The client id as the topic of its message.
 pub fn connect_piece(b: &[u8]) -> Piece
     ensures { λ r. ⌜ r ≡ connectPiece (now (b .entry)) ⌝ }
-    ensures within { λ r. ⌜ PieceIn (now (b .entry)) r ⌝ }
 {
     let client = data_field(b, begin_at(10));
     if !client.fine {

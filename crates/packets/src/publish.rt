@@ -6,7 +6,6 @@ use crate::fields::number_if;
 use crate::piece::Piece;
 use crate::piece::no_piece;
 ghost use mathlib.Core.Path.{_≡_};
-ghost use Rattle.packets.specs.Piece.{PieceIn};
 ghost use Rattle.packets.specs.Publish.{publishFlags, identified, publishBuilt, publishPiece};
 
 // QoS 0 to 2, and DUP only above 0.
@@ -39,7 +38,6 @@ pub fn publish_built(flags: u8, b: &[u8]) -> bool
 // The topic, the QoS, and where the payload begins.
 pub fn publish_piece(flags: u8, b: &[u8]) -> Piece
     ensures { λ r. ⌜ r ≡ publishPiece flags (now (b .entry)) ⌝ }
-    ensures within { λ r. ⌜ PieceIn (now (b .entry)) r ⌝ }
 {
     let topic = data_field(b, begin_at(0));
     let qos = flags / 2 % 4;

@@ -51,14 +51,19 @@ module _ (subscribe : Bool) (b : List ℕ) (at : ℕ) where
       })
       (λ _. no-filter b at)
 
-module _ (subscribe : Bool) (b : List ℕ) (at : ℕ) {f q : Field} (e : f ≡ dataField b (begin at)) (g : q ≡ byteIf subscribe b f) (h : requestFine q ≡ true) where
-  -- a filter by its two fields
-  pub filter-good : pieceOf (q .value) (f .from) (f .next) (length b) (q .next) ≡ filterAt subscribe b at
-  unfolding filterAt filterFrom
-  filter-good = rw (← e, ← g, h)
+-- so whatever equals it lies there, too
+pub filter-is : (subscribe : Bool) (b : List ℕ) (at : ℕ) {p : Piece} → p ≡ filterAt subscribe b at → (p ≡ filterAt subscribe b at) × FilterIn b at p
+filter-is subscribe b at e = (e, rw e (filter-in subscribe b at))
 
-  pub filter-good-in : FilterIn b at (pieceOf (q .value) (f .from) (f .next) (length b) (q .next))
-  filter-good-in = rw filter-good (filter-in subscribe b at)
+-- a filter by its two fields
+module _ (subscribe : Bool) (b : List ℕ) (at : ℕ) {f q : Field} (e : f ≡ dataField b (begin at)) (g : q ≡ byteIf subscribe b f) where
+  pub filter-good : requestFine q ≡ true → pieceOf (q .value) (f .from) (f .next) (length b) (q .next) ≡ filterAt subscribe b at
+  unfolding filterAt filterFrom
+  filter-good h = rw (← e, ← g, h)
+
+  pub filter-none : requestFine q ≡ false → noPiece ≡ filterAt subscribe b at
+  unfolding filterAt filterFrom
+  filter-none h = rw (← e, ← g, h)
 
 -- the next one begins further on
 pub filter-further : (subscribe : Bool) (b : List ℕ) (at : ℕ) → filterAt subscribe b at .fine ≡ true → at < filterAt subscribe b at .next

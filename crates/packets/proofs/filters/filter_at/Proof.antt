@@ -1,8 +1,7 @@
 use mathlib.Core.Path.{sym, _∙_}
 use native.Mathlib.Omega.{arith}
 use borrow.Author.Tests.{not-true, not-false}
-use Rattle.packets.specs.Filters.{filterFrom, filterAt}
-use Rattle.packets.proofs.filters.WalkLaws.{no-filter, filter-good, filter-good-in, request-is}
+use Rattle.packets.proofs.filters.WalkLaws.{request-is, filter-none, filter-good, filter-is}
 use borrow.Author.Needs.{needs}
 use Rattle.packets.proofs.filters.filter_at.Statement.{statement}
 use Rattle.packets.proofs.filters.filter_at.Tie as tie
@@ -36,8 +35,7 @@ no-piece-requires c κs = search needs
 
 -- src/filters.rt:42:9
 returns : tie.Need-returns
-unfolding filterAt filterFrom
-returns c = let e = sym (c .before .before .request-fine .ensures) ∙ not-true _ (c .before .if1 .taken) in (rw (← c .before .before .before .before .before .begin-at .ensures, ← c .before .before .before .before .data-field .ensures .0, ← c .before .before .before .byte-if .ensures, e) (c .no-piece .ensures), rw (c .no-piece .ensures) (no-filter _ _))
+returns c = filter-is _ _ _ (c .no-piece .ensures ∙ filter-none (c .before .before .before .before .before .before .before .args .subscribe) (c .before .before .before .before .before .before .before .args .b .now) (c .before .before .before .before .before .before .before .args .at) (rw (c .before .before .before .before .before .begin-at .ensures) at (c .before .before .before .before .data-field .ensures .0)) (c .before .before .before .byte-if .ensures) (sym (c .before .before .request-fine .ensures) ∙ not-true _ (c .before .if1 .taken)))
 
 -- src/filters.rt:46:14
 cast-t9 : tie.Need-cast-t9
@@ -45,7 +43,7 @@ cast-t9 c = let h = request-is _ (sym (c .before .before .request-fine .ensures)
 
 -- src/filters.rt:35:1
 returns-2 : tie.Need-returns-2
-returns-2 c = let e = sym (c .before .before .request-fine .ensures) ∙ not-false _ (c .before .if1 .left) in let f = rw (c .before .before .before .before .before .begin-at .ensures) at (c .before .before .before .before .data-field .ensures .0) in (filter-good (c .before .before .before .before .before .before .before .args .subscribe) (c .before .before .before .before .before .before .before .args .b .now) (c .before .before .before .before .before .before .before .args .at) f (c .before .before .before .byte-if .ensures) e, filter-good-in (c .before .before .before .before .before .before .before .args .subscribe) (c .before .before .before .before .before .before .before .args .b .now) (c .before .before .before .before .before .before .before .args .at) f (c .before .before .before .byte-if .ensures) e)
+returns-2 c = filter-is _ _ _ (filter-good (c .before .before .before .before .before .before .before .args .subscribe) (c .before .before .before .before .before .before .before .args .b .now) (c .before .before .before .before .before .before .before .args .at) (rw (c .before .before .before .before .before .begin-at .ensures) at (c .before .before .before .before .data-field .ensures .0)) (c .before .before .before .byte-if .ensures) (sym (c .before .before .request-fine .ensures) ∙ not-false _ (c .before .if1 .left)))
 
 pub filter-at-spec : {M : Type 1} → statement M
 filter-at-spec =

@@ -1,8 +1,4 @@
-use Rattle.packets.specs.Publish.{hasId}
-use native.Mathlib.Omega.{arith}
 use borrow.Author.Tests.{not-true, not-false}
-use Rattle.packets.proofs.fields.FieldLaws.{number-if-ended}
-use Rattle.packets.proofs.filters.WalkLaws.{none-in}
 use Rattle.packets.proofs.publish.PublishLaws.{publish-good, publish-none}
 use mathlib.Core.Path.{_∙_}
 use borrow.Author.Needs.{needs}
@@ -15,29 +11,29 @@ use Rattle.packets.proofs.fields.data_field.Reads as data-field-reads
 use Rattle.packets.proofs.fields.number_if.Reads as number-if-reads
 use Rattle.packets.proofs.piece.no_piece.Reads as no-piece-reads
 
--- src/publish.rt:44:31
+-- src/publish.rt:42:31
 begin-at-requires : tie.Need-begin-at-requires
 begin-at-requires c κs = search needs
 
--- src/publish.rt:44:9
+-- src/publish.rt:42:9
 data-field-requires : tie.Need-data-field-requires
 data-field-requires c κs = search needs
 
--- src/publish.rt:46:9
+-- src/publish.rt:44:9
 number-if-requires : tie.Need-number-if-requires
 number-if-requires c κs = search needs
 
--- src/publish.rt:48:9
+-- src/publish.rt:46:9
 no-piece-requires : tie.Need-no-piece-requires
 no-piece-requires c κs = search needs
 
--- src/publish.rt:48:9
+-- src/publish.rt:46:9
 returns : tie.Need-returns
-returns c = (c .no-piece .ensures ∙ publish-none (c .before .before .before .before .before .before .before .args .flags) _ (rw (c .before .before .before .before .before .begin-at .ensures) at (c .before .before .before .before .data-field .ensures .0)) (c .before .before .before .number-if .ensures) (not-true _ (c .before .if1 .taken)), rw (c .no-piece .ensures) (none-in _))
+returns c = c .no-piece .ensures ∙ publish-none (c .before .before .before .before .before .before .before .args .flags) _ (rw (c .before .before .before .before .before .begin-at .ensures) at (c .before .before .before .before .data-field .ensures .0)) (c .before .before .before .number-if .ensures) (not-true _ (c .before .if1 .taken))
 
--- src/publish.rt:40:1
+-- src/publish.rt:39:1
 returns-2 : tie.Need-returns-2
-returns-2 c = (publish-good (c .before .before .before .before .before .before .args .flags) _ (rw (c .before .before .before .before .begin-at .ensures) at (c .before .before .before .data-field .ensures .0)) (c .before .before .number-if .ensures) (not-false _ (c .if1 .left)), record { ordered = c .before .before .before .data-field .ensures .1 .ordered; inside = c .before .before .before .data-field .ensures .1 .ended; payload = rw (c .before .before .number-if .ensures) (number-if-ended (hasId (c .before .before .before .before .before .before .args .flags)) (c .before .before .before .before .before .before .args .b .now) (c .before .before .before .data-field .result) (c .before .before .before .data-field .ensures .1 .ended)); after = omega arith })
+returns-2 c = publish-good (c .before .before .before .before .before .before .args .flags) _ (rw (c .before .before .before .before .begin-at .ensures) at (c .before .before .before .data-field .ensures .0)) (c .before .before .number-if .ensures) (not-false _ (c .if1 .left))
 
 pub publish-piece-spec : {M : Type 1} → statement M
 publish-piece-spec =
