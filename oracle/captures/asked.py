@@ -68,6 +68,7 @@ def stops(number, refused):
 
 
 def sent(actions):
+    """The lines of NAME.sent: the last is the first `stops`, if there is one."""
     lines = []
     for each in actions:
         lines += each.sent

@@ -1,4 +1,4 @@
-/* writer PORT: Paho C does what the lines of the input say (make, `Action`), one after the other: the next one only
+/* writer PORT: Paho C does what the lines of the input say (asked.py, `Action`), one after the other: the next one only
    when the broker has acknowledged the last. The synchronous client without callbacks has no thread of its own. */
 #include <MQTTClient.h>
 #include <stdio.h>

@@ -1,5 +1,5 @@
-// writer.js PORT: node's mqtt does what the lines of the input say (make, `Action`), one after the other: the next one
-// only when the broker has acknowledged the last.
+// writer.js PORT: node's mqtt does what the lines of the input say (asked.py, `Action`), one after the other: the next
+// one only when the broker has acknowledged the last.
 const fs = require('fs')
 const mqtt = require('mqtt')
 

@@ -1,4 +1,4 @@
-"""writer.py PORT: python3-paho-mqtt does what the lines of the input say (make, `Action`), one after the other: the
+"""writer.py PORT: python3-paho-mqtt does what the lines of the input say (asked.py, `Action`), one after the other: the
 next one only when the broker has acknowledged the last. No thread of the library runs, so nothing is sent between."""
 import sys
 

@@ -78,7 +78,7 @@ pub enum Check {
     BodyMissing,
     /// Section 2.2.1: type 0 or 15.
     ReservedType,
-    /// MQTT-2.2.2-2: a CONNECT's flags in the fixed header are not 0.
+    /// MQTT-2.2.2-1 and -2: a CONNECT's flags in the fixed header are not 0.
     ConnectHeaderFlags,
     /// MQTT-3.8.1-1: a SUBSCRIBE's are not 2.
     SubscribeHeaderFlags,
@@ -102,7 +102,7 @@ pub enum Check {
     WillRetainWithoutWill,
     /// MQTT-3.1.2-22: a password without a user name.
     PasswordWithoutUser,
-    /// MQTT-3.1.3-8: an empty client id with CleanSession 0.
+    /// MQTT-3.1.3-7 and -8: an empty client id with CleanSession 0.
     EmptyClientIdWithoutClean,
     /// MQTT-3.1.2-11, -18 and -20: bytes behind the last field that the connect flags announce.
     BytesBehindConnect,
@@ -110,11 +110,12 @@ pub enum Check {
     IdZero(Field),
     /// MQTT-3.8.3-3 and MQTT-3.10.3-2: no filter at all.
     NoFilter(Field),
-    /// MQTT-3.8.3-4: requested QoS 3.
+    /// MQTT-3-8.3-4, as the standard prints it: requested QoS 3.
     RequestedQos3,
-    /// MQTT-3.8.3-4: one of the upper six bits of a requested QoS.
+    /// MQTT-3-8.3-4: one of the upper six bits of a requested QoS.
     RequestedReservedBits,
-    /// Section 2.2.3: the packet ends within a field, or before it.
+    /// Section 2.2.3: the packet ends within a field, or before it. In a CONNECT, which has those that its flags say:
+    /// MQTT-3.1.2-9, -19 and -21, and MQTT-3.1.3-1 and -3.
     Past(Field),
     /// The same with the two bytes of a field's length.
     PastInLength(Field),
