@@ -1,6 +1,7 @@
 /* header: a caller in C, or compiled as C++, that has only include/hub.h and the archive. It calls every export and
- * holds the answers to known ones: document 01's P1 to P8 and its trace, and answers recorded from the Rust original
- * (crates/replay/stdin). The last line is the tally. bin/header compiles and runs it. */
+ * holds the answers to known ones: document 01's P1 to P8 and its trace, answers recorded from the Rust original
+ * (crates/replay/stdin), and packets written by MQTT 3.1.1. The last line is the tally. bin/header compiles and runs
+ * it. */
 #include "hub.h"
 
 #include <stdio.h>
@@ -210,6 +211,75 @@ static void standing(TraceCall *stands) {
     holds("where its limit stands", memcmp(room, fresh, sizeof fresh - 1) == 0);
 }
 
+/* A CONNECT of the client mount-7, a PUBLISH of QoS 1, a SUBSCRIBE of two filters, a PINGREQ; and all four in a row. */
+#define CONNECT "\x10\x13\0\4MQTT\4\2\0\x3c\0\7mount-7"
+#define PUBLISH "\x32\x0b\0\3m/a\0\1west"
+#define SUBSCRIBE "\x82\x0c\0\2\0\3m/#\1\0\1+\2"
+#define PINGREQ "\xc0\0"
+static const char packets[] = CONNECT PUBLISH SUBSCRIBE PINGREQ;
+enum { PUBLISH_AT = 21, SUBSCRIBE_AT = 34, PINGREQ_AT = 48, PACKETS_END = 50 };
+
+static bool found(struct HubPacket packet, uint32_t number, size_t length, size_t messages) {
+    return packet.number == number && packet.length == length && packet.messages == messages;
+}
+
+static bool lined(struct HubPacketLines end, uint32_t number, size_t length) {
+    return end.number == number && end.line == 0 && end.length == length;
+}
+
+/* Packets alone, at a place among others, and those that are refused. */
+static void reading(void) {
+    static uint8_t wide[5 + 129];
+    holds("a CONNECT", found(hub_packet(BYTES(CONNECT), 0), 0, 21, 1));
+    holds("a PUBLISH", found(hub_packet(BYTES(PUBLISH), 0), 0, 13, 1));
+    holds("a SUBSCRIBE of two filters", found(hub_packet(BYTES(SUBSCRIBE), 0), 0, 14, 2));
+    holds("a PINGREQ", found(hub_packet(BYTES(PINGREQ), 0), 0, 2, 1));
+    holds("the first of four", found(hub_packet(BYTES(packets), 0), 0, 21, 1));
+    holds("the second", found(hub_packet(BYTES(packets), PUBLISH_AT), 0, 13, 1));
+    holds("the third", found(hub_packet(BYTES(packets), SUBSCRIBE_AT), 0, 14, 2));
+    holds("the last", found(hub_packet(BYTES(packets), PINGREQ_AT), 0, 2, 1));
+
+    holds("31 at the end", found(hub_packet(BYTES(packets), PACKETS_END), 31, 0, 0));
+    holds("31 past it", found(hub_packet(BYTES(packets), PACKETS_END + 1), 31, 0, 0));
+    holds("31 at the largest place", found(hub_packet(BYTES(packets), SIZE_MAX), 31, 0, 0));
+    holds("31 of no bytes", found(hub_packet(BYTES(""), 0), 31, 0, 0));
+    holds("31 where the last byte is missing", found(hub_packet(BYTES(PUBLISH) - 1, 0), 31, 0, 0));
+    holds("31 within a length field", found(hub_packet(BYTES("x\xff\xff\xff"), 0), 31, 0, 0));
+    holds("32 for its fourth continuation bit", found(hub_packet(BYTES("x\xff\xff\xff\xff"), 0), 32, 0, 0));
+    holds("32 for a packet of type 0", found(hub_packet(BYTES("\0\0"), 0), 32, 0, 0));
+
+    memset(wide, 'a', sizeof wide);
+    memcpy(wide, "\x30\x83\1\0\x81", 5);
+    holds("33 for a topic of 129 bytes", found(hub_packet(wide, sizeof wide, 0), 33, 0, 0));
+    memcpy(wide, "\x30\x82\1\0\x80", 5);
+    holds("a topic of 128 bytes", found(hub_packet(wide, sizeof wide, 0), 0, 133, 1));
+}
+
+/* A packet's messages as lines of a trace, or refused with nothing written. */
+static void lining(void) {
+    static const char one[] = "at=1500000\nclock=ok\ntype=3\nqos=1\ntopic=6d2f61\nsize=4\npayload=77657374\n";
+    static const char two[] = "at=18446744073709551615\nclock=bad\ntype=8\nqos=1\ntopic=6d2f23\nsize=0\npayload=\n"
+                              "at=18446744073709551615\nclock=bad\ntype=8\nqos=2\ntopic=2b\nsize=0\npayload=\n";
+    const size_t length = sizeof one - 1;
+    memset(room, 0xa5, sizeof room);
+    holds("28 where the room for lines is a byte too short",
+          lined(hub_packet_lines(BYTES(PUBLISH), 0, 1500000, true, room, length - 1), 28, 0));
+    holds("28 where there is none", lined(hub_packet_lines(BYTES(PUBLISH), 0, 1500000, true, room, 0), 28, 0));
+    holds("31 at the largest place",
+          lined(hub_packet_lines(BYTES(packets), SIZE_MAX, 0, true, room, sizeof room), 31, 0));
+    holds("32 for a fourth continuation bit",
+          lined(hub_packet_lines(BYTES("x\xff\xff\xff\xff"), 0, 0, true, room, sizeof room), 32, 0));
+    holds("32 before 28", lined(hub_packet_lines(BYTES("x\xff\xff\xff\xff"), 0, 0, true, room, 0), 32, 0));
+    holds("each writes nothing", untouched(0));
+    holds("the lines of a PUBLISH", lined(hub_packet_lines(BYTES(PUBLISH), 0, 1500000, true, room, length), 0, length));
+    holds("as a trace has them", memcmp(room, one, length) == 0 && untouched(length));
+    memset(room, 0xa5, sizeof room);
+    holds("those of two filters, among other packets",
+          lined(hub_packet_lines(BYTES(packets), SUBSCRIBE_AT, UINT64_MAX, false, room, sizeof room), 0,
+                sizeof two - 1));
+    holds("as a trace has them", memcmp(room, two, sizeof two - 1) == 0 && untouched(sizeof two - 1));
+}
+
 int main(void) {
     matching();
     hashing();
@@ -220,6 +290,8 @@ int main(void) {
     choosing();
     saving();
     converting();
+    reading();
+    lining();
     printf("%d passed, %d failed\n", passed, failed);
     return failed != 0;
 }
