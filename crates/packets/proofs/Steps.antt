@@ -52,7 +52,7 @@ module _ (s : List ℕ) (e : packetOf s .number ≡ 0) where
   accepted =
       let r : packetRefusal s ≡ 0 = sym (packet-number s) ∙ e in
       let h : headerRefusal s ≡ 0 =
-          by (eqb (headerRefusal s) 0) (eqb-true _ _) (λ f. absurd (eqb-false _ _ f (sym (header-first s refl (eqb-false _ _ f)) ∙ r))) in
+      by (eqb (headerRefusal s) 0) (eqb-true _ _) (λ f. absurd (eqb-false _ _ f (sym (header-first s refl (eqb-false _ _ f)) ∙ r))) in
       let b = body-accepted (typeOf s) (flagsOf s) (bodyIn s) (sym (by-header s h) ∙ r) in
       record { header = h; built = b .0; good = b .1; short = b .2 }
 
@@ -119,7 +119,7 @@ module _ (s : List ℕ) (place «now_us» : ℕ) (ok : Bool) where
       walked zero end at = λ g f. refl
       walked (suc k) end at =
           let P : List Piece → Type 0 = λ (ps : List Piece).
-              every (goodPiece body) ps ≡ true → some isLong ps ≡ false → stepped (length ps) s place at «now_us» ok ≡ map sent ps in
+          every (goodPiece body) ps ≡ true → some isLong ps ≡ false → stepped (length ps) s place at «now_us» ok ≡ map sent ps in
           choose P (leb end at) (λ _ g f. refl)
           (λ _ g f.
           let q = both (goodPiece body (read at)) _ g in
@@ -127,7 +127,7 @@ module _ (s : List ℕ) (place «now_us» : ℕ) (ok : Bool) where
           let t = fit body (read at) (q .0) (r .0) in
           let m = one-message at (list-piece kind (flagsOf bytes) body at l) t in
           choose (λ (ps : List Piece). every (goodPiece body) ps ≡ true → some isLong ps ≡ false
-              → messageAt s place at «now_us» ok ∷ stepped (length ps) s place (messageAt s place at «now_us» ok .next) «now_us» ok ≡ sent (read at) ∷ map sent ps)
+          → messageAt s place at «now_us» ok ∷ stepped (length ps) s place (messageAt s place at «now_us» ok .next) «now_us» ok ≡ sent (read at) ∷ map sent ps)
           (read at .fine)
           (λ _ g2 f2. joined (λ (next : ℕ). stepped (length (walk read k end (read at .next))) s place next «now_us» ok) m (walked k end (read at .next) g2 f2))
           (λ u _ _. clash (t .0) u)

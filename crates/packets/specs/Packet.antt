@@ -3,7 +3,8 @@
 -- Assumes nothing.
 use mathlib.Core.Bool.{Bool, cond, _&&_}
 use mathlib.Core.List.{List}
-use Prim.Native.Nat.{ℕ}
+use mathlib.Core.Path.{_≡_}
+use Prim.Native.Nat.{ℕ, _+_, _≤_}
 use lib.Dec.{eqb}
 use lib.ListN.{length, drop}
 use Rattle.laws.specs.Lists.{every, some}
@@ -41,3 +42,8 @@ packetOf s =
 -- the packet at a place; there are no bytes behind the last one
 abbrev pub packetAt : List ℕ → ℕ → Packet
 packetAt s place = packetOf (drop place s)
+
+-- a packet that is not refused has a type and a length at least, and lies in the bytes
+pub record PacketIn (s : List ℕ) (place : ℕ) (p : Packet) : Type 0 where
+  pub some : p .number ≡ 0 → 2 ≤ p .length
+  pub inside : p .number ≡ 0 → place + p .length ≤ length s

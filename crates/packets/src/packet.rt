@@ -4,7 +4,7 @@ use crate::bodies::first_step;
 use crate::bodies::look_at;
 use crate::header::read_header;
 ghost use mathlib.Core.Path.{_≡_};
-ghost use Rattle.packets.specs.Packet.{refusedPacket, packetOf, packetAt};
+ghost use Rattle.packets.specs.Packet.{refusedPacket, packetOf, packetAt, PacketIn};
 
 // What a packet is: 0, 31, 32 or 33; its length from its first byte; how many messages it has, and the step of the first, for `message_at`. A refused one has no length and no message.
 pub struct Packet {
@@ -58,6 +58,7 @@ fn packet_of(s: &[u8]) -> Packet
 // The packet at a place of some bytes, any place: 31 where no byte stands there.
 pub fn read_packet(bytes: &[u8], place: usize) -> Packet
     ensures { λ r. ⌜ r ≡ packetAt (now (bytes .entry)) place ⌝ }
+    ensures within { λ r. ⌜ PacketIn (now (bytes .entry)) place r ⌝ }
 {
     if bytes.len() <= place {
         return refused_packet(31);

@@ -1,0 +1,3 @@
+pub mod MessageText
+pub mod PacketText
+pub mod ReadBack
