@@ -25,41 +25,7 @@ use Rattle.packets.specs.declared.packet.Packet.{Packet}
 use Rattle.packets.specs.declared.piece.Piece.{Piece}
 use Rattle.packets.proofs.filters.WalkLaws.{filter-further, left-turn, left-last}
 use Rattle.packets.proofs.messages.MessageLaws.{piece-fine}
-use Rattle.packets.proofs.packet.PacketLaws.{by-header, packet-number, header-first}
-
--- what a packet that is not refused is
-pub record Accepted (s : List ℕ) : Type 0 where
-  pub header : headerRefusal s ≡ 0
-  pub built : bodyBuilt (typeOf s) (flagsOf s) (bodyIn s) ≡ true
-  pub good : every (goodPiece (bodyIn s)) (piecesOf (typeOf s) (flagsOf s) (bodyIn s)) ≡ true
-  pub short : some isLong (piecesOf (typeOf s) (flagsOf s) (bodyIn s)) ≡ false
-
--- a body that is not refused
-body-accepted : (kind flags : ℕ) (b : List ℕ) → bodyRefusal kind flags b ≡ 0
-    → (bodyBuilt kind flags b ≡ true) × (every (goodPiece b) (piecesOf kind flags b) ≡ true) × (some isLong (piecesOf kind flags b) ≡ false)
-unfolding bodyRefusal
-body-accepted kind flags b =
-    let ps : List Piece = piecesOf kind flags b in
-    let P : ℕ → Type 0 = λ (n : ℕ). n ≡ 0 → (bodyBuilt kind flags b ≡ true) × (every (goodPiece b) ps ≡ true) × (some isLong ps ≡ false) in
-    choose P (bodyBuilt kind flags b && every (goodPiece b) ps)
-    (λ g.
-    let h = both (bodyBuilt kind flags b) (every (goodPiece b) ps) g in
-    choose P (some isLong ps) (λ _ e. absurd (omega arith)) (λ l _. (h .0, h .1, l)))
-    (λ _ e. absurd (omega arith))
-
-module _ (s : List ℕ) (e : packetOf s .number ≡ 0) where
-  pub accepted : Accepted s
-  accepted =
-      let r : packetRefusal s ≡ 0 = sym (packet-number s) ∙ e in
-      let h : headerRefusal s ≡ 0 =
-      by (eqb (headerRefusal s) 0) (eqb-true _ _) (λ f. absurd (eqb-false _ _ f (sym (header-first s refl (eqb-false _ _ f)) ∙ r))) in
-      let b = body-accepted (typeOf s) (flagsOf s) (bodyIn s) (sym (by-header s h) ∙ r) in
-      record { header = h; built = b .0; good = b .1; short = b .2 }
-
-  -- how many messages, and the first step
-  messages-are : (packetOf s .messages ≡ length (piecesOf (typeOf s) (flagsOf s) (bodyIn s))) × (packetOf s .first ≡ firstStep (typeOf s))
-  unfolding packetOf
-  messages-are = let r : packetRefusal s ≡ 0 = sym (packet-number s) ∙ e in rw r (refl, refl)
+use Rattle.packets.proofs.packet.AcceptedLaws.{Accepted, accepted, messages-are}
 
 -- a piece that was read and is not long
 abbrev Fit : Piece → Type 0

@@ -25,13 +25,7 @@ use Rattle.packets.specs.Taken.{topicBytes, payloadBytes, Within, Taken}
 use Rattle.packets.specs.declared.messages.PacketMessage.{PacketMessage}
 use Rattle.packets.specs.declared.piece.Piece.{Piece}
 use Rattle.packets.proofs.bodies.PieceLaws.{piece-in}
-use Rattle.packets.proofs.header.LengthLaws.{over-is, short-is}
-
--- a header that is not refused says what is there
-header-there : (s : List ℕ) → headerRefusal s ≡ 0 → sizeOf s ≤ length s
-header-there s e =
-    by (lengthAt s 1 .over) (λ o. absurd (omega (arith, over-is s o, e)))
-    (λ o. by-le (sizeOf s) (length s) (λ h. h) (λ h. absurd (omega (arith, short-is s o h, e))))
+use Rattle.packets.proofs.packet.AcceptedLaws.{header-there}
 
 -- a part of bytes that are there is as long as its places say
 part-long : (s : List ℕ) (from to : ℕ) → from ≤ to → to ≤ length s → length (part s from to) ≡ to - from
@@ -74,7 +68,7 @@ module _ (s : List ℕ) (place «now_us» : ℕ) (ok : Bool) where
       choose P (eqb (headerRefusal bytes) 0)
       (λ h.
       choose P (eqb (pieceRefusal p) 0)
-      (λ g _. sent-within p (header-there bytes (eqb-true _ _ h)) (piece-in (typeOf bytes) (flagsOf bytes) (bodyIn bytes) step) (piece-short p (eqb-true _ _ g)))
+      (λ g _. sent-within p (header-there bytes (eqb-true _ _ h) .1) (piece-in (typeOf bytes) (flagsOf bytes) (bodyIn bytes) step) (piece-short p (eqb-true _ _ g)))
       (λ g e. absurd (eqb-false _ _ g e)))
       (λ h e. absurd (eqb-false _ _ h e))
 

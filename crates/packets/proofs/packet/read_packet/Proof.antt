@@ -2,6 +2,7 @@ use mathlib.Core.Path.{sym, _∙_}
 use native.Mathlib.Omega.{arith}
 use Rattle.laws.proofs.Lists.{tail-whole}
 use Rattle.packets.specs.Packet.{packetOf}
+use Rattle.packets.proofs.packet.AcceptedLaws.{packet-is}
 use Rattle.packets.proofs.packet.PacketLaws.{packet-none}
 use borrow.Author.Needs.{needs}
 use Rattle.packets.proofs.packet.read_packet.Statement.{statement}
@@ -17,7 +18,7 @@ refused-packet-requires c κs = search needs
 
 -- src/packet.rt:63:9
 returns : tie.Need-returns
-returns c = c .refused-packet .ensures ∙ packet-none _ (c .before .if1 .taken)
+returns c = packet-is _ _ (c .refused-packet .ensures ∙ packet-none _ (c .before .if1 .taken))
 
 -- src/packet.rt:65:15
 sub-packet-of : tie.Need-sub-packet-of
@@ -37,7 +38,7 @@ packet-of-requires c κs = search needs
 
 -- src/packet.rt:59:1
 returns-2 : tie.Need-returns-2
-returns-2 c = rw (tail-whole (c .before .before .before .before .args .bytes .now) (c .before .before .before .before .args .place)) at (c .packet-of .ensures)
+returns-2 c = packet-is _ _ (rw (tail-whole (c .before .before .before .before .args .bytes .now) (c .before .before .before .before .args .place)) at (c .packet-of .ensures))
 
 pub read-packet-spec : {M : Type 1} → statement M
 read-packet-spec =
