@@ -6,7 +6,7 @@ use mathlib.Core.Path.{_≡_, refl, sym, _∙_, ap}
 use Prim.Native.Nat.{ℕ, zero, suc, _+_, _-_, _≤_, _<_}
 use native.Mathlib.Omega.{arith}
 use lib.Dec.{eqb, ltb, leb}
-use lib.ListN.{length, drop, length-map}
+use lib.ListN.{length, drop, length-map, length-take}
 use borrow.Author.Tests.{eqb-true, eqb-false, eq-eqb, ltb-true, ltb-false}
 use Rattle.laws.specs.Lists.{every, some}
 use Rattle.laws.proofs.Cases.{by, by-le, choose, clash}
@@ -24,6 +24,7 @@ use Rattle.packets.specs.declared.messages.PacketMessage.{PacketMessage}
 use Rattle.packets.specs.declared.packet.Packet.{Packet}
 use Rattle.packets.specs.declared.piece.Piece.{Piece}
 use Rattle.packets.proofs.filters.WalkLaws.{filter-further, left-turn, left-last}
+use Rattle.packets.proofs.header.LengthLaws.{length-small}
 use Rattle.packets.proofs.messages.MessageLaws.{piece-fine}
 use Rattle.packets.proofs.packet.AcceptedLaws.{Accepted, accepted, messages-are}
 
@@ -137,6 +138,35 @@ module _ (s : List ℕ) (place «now_us» : ℕ) (ok : Bool) where
     some-one : 1 ≤ packetAt s place .messages
     unfolding piecesOf
     some-one = rw (messages-are bytes e .0) (by (isList kind) (λ l. rw l (has-one l)) (λ l. rw l (omega arith)))
+
+-- none of a packet's messages is refused
+each-good : (f : Piece → PacketMessage) → ((p : Piece) → f p .number ≡ 0) → (ps : List Piece) → every (λ m. eqb (m .number) 0) (map f ps) ≡ true
+unfolding every
+each-good f z [] = refl
+each-good f z (p ∷ ps) = rw (z p) (each-good f z ps)
+
+pub all-good : (s : List ℕ) (place «now_us» : ℕ) (ok : Bool) → every (λ m. eqb (m .number) 0) (messagesAt s place «now_us» ok) ≡ true
+unfolding messagesOf
+all-good s place «now_us» ok = each-good (sent s place «now_us» ok) (λ p. refl) (piecesOf (typeOf (drop place s)) (flagsOf (drop place s)) (bodyIn (drop place s)))
+
+-- a walk is no longer than it may be
+walk-long : (read : ℕ → Piece) (k end at : ℕ) → length (walk read k end at) ≤ k
+unfolding walk
+walk-long read zero end at = omega arith
+walk-long read (suc k) end at =
+    choose (λ (ps : List Piece). length ps ≤ suc k) (leb end at) (λ _. omega arith)
+    (λ _. choose (λ (ps : List Piece). length (read at ∷ ps) ≤ suc k) (read at .fine) (λ _. let h = walk-long read k end (read at .next) in omega arith) (λ _. omega arith))
+
+-- so no packet has more messages than its body has bytes, but for one
+pub few : (s : List ℕ) (place : ℕ) → packetAt s place .number ≡ 0 → packetAt s place .messages ≤ 268435456
+unfolding piecesOf
+few s place e =
+    let t : List ℕ = drop place s in
+    let l = length-small t 1 in
+    let b : length (bodyIn t) ≤ lengthAt t 1 .value = omega (arith, length-take (sizeOf t - bodyFrom t) (drop (bodyFrom t) t)) in
+    rw (messages-are t e .0)
+    (choose (λ (ps : List Piece). length ps ≤ 268435456) (isList (typeOf t))
+    (λ _. omega (arith, walk-long (filterAt (eqb (typeOf t) 8) (bodyIn t)) (length (bodyIn t) + 1) (length (bodyIn t)) 2, b, l .value)) (λ _. omega arith))
 
 pub steps : Steps
 steps =

@@ -11,7 +11,7 @@ use Rattle.packets.specs.Packet.{packetAt, firstOf}
 use Rattle.packets.specs.Taken.{topicBytes, payloadBytes}
 use Rattle.packets.specs.declared.messages.PacketMessage.{PacketMessage}
 use Rattle.packets_text.specs.MessageText.{messageText}
-use Rattle.packets_text.specs.declared.lines.PacketLines.{PacketLines}
+use Rattle.packets_text.specs.declared.written.PacketLines.{PacketLines}
 
 -- the lines of a message of some bytes
 abbrev pub textOf : List ℕ → PacketMessage → List ℕ

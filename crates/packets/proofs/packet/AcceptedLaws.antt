@@ -81,7 +81,7 @@ pub packet-is : (s : List ℕ) (place : ℕ) {p : Packet} → p ≡ packetAt s p
 packet-is s place {p} e =
     let t : List ℕ = drop place s in
     let size : packetOf t .number ≡ 0 → (packetOf t .length ≡ sizeOf t) × (2 ≤ sizeOf t) × (place + sizeOf t ≤ length s) = λ z.
-        let h = header-there t (accepted t z .header) in
-        let b = length-some t 1 (h .0) in
-        (length-is t z, omega arith, omega (arith, h .1, length-drop place s)) in
+    let h = header-there t (accepted t z .header) in
+    let b = length-some t 1 (h .0) in
+    (length-is t z, omega arith, omega (arith, h .1, length-drop place s)) in
     (e, rw e (record { some = λ z. omega (arith, size z .0, size z .1); inside = λ z. omega (arith, size z .0, size z .2) }))
