@@ -1,8 +1,9 @@
 /* hub.h: the hub's message monitor for callers in C11 and C++11. Link target/staticlib/libhub.a, which `rt staticlib
- * hub` proves and writes; for hub_settings libboot.a, which `rt staticlib boot` writes; and for the calls whose names begin
- * with hub_standing, which are for a support desk and not for the part, libdesk.a, which `rt staticlib desk` writes. Each
- * is for x86-64 Linux (ELF, System V calls), as position-independent code; besides the functions below it needs memcpy and
- * memset. bin/header holds this file and the archives to each other.
+ * hub` proves and writes; for hub_settings libboot.a, which `rt staticlib boot` writes; for hub_packet and
+ * hub_packet_lines libjack.a, which `rt staticlib jack` writes; and for the calls whose names begin with hub_standing,
+ * which are for a support desk and not for the part, libdesk.a, which `rt staticlib desk` writes. Each is for x86-64 Linux
+ * (ELF, System V calls), as position-independent code; besides the functions below it needs memcpy and memset. bin/header
+ * holds this file and the archives to each other.
  *
  * The caller's duties, for every function here:
  * - a pointer is not null, also where the length beside it is 0;
@@ -45,6 +46,9 @@ _Static_assert(sizeof(size_t) == 8, "libhub.a is for x86-64: a length has 64 bit
  * (proved). */
 #define HUB_SETTINGS_LONGEST 5547
 
+/* The seven lines of a message are no longer (proved). */
+#define HUB_MESSAGE_LONGEST 843
+
 /* The two hashes that tell clients apart. */
 struct HubClientHashes {
     uint32_t hash;  /* FNV-1a */
@@ -57,6 +61,20 @@ struct HubTrace {
                         which has no such line, since nothing is written */
     uint64_t line;   /* the last line of a whole trace, else the refused one; 0 with 27 and 28 */
     size_t length;   /* how many bytes the answer has; 0 with 28 */
+};
+
+/* What a packet is. */
+struct HubPacket {
+    uint32_t number; /* 0, or the number of the refusal */
+    size_t length;   /* how many bytes the whole packet has, from its first one; 0 with any refusal */
+    size_t messages; /* how many messages it gives; 0 with any refusal */
+};
+
+/* How a packet's messages were written as lines. */
+struct HubPacketLines {
+    uint32_t number; /* 0, or the number of the refusal */
+    uint64_t line;   /* always 0: no line was read */
+    size_t length;   /* how many bytes were written; 0 with any refusal */
 };
 
 /* How settings were written back. */
@@ -138,6 +156,20 @@ struct HubTrace hub_trace_standard_length(const uint8_t *text, size_t text_len);
  * word, with 37 at its last line; and then an `out` that the settings do not fit into with 28 and line 0. With any
  * refusal the length is 0 and nothing is written. */
 struct HubSettings hub_settings(const uint8_t *text, size_t text_len, uint32_t form, uint8_t *out, size_t out_len);
+
+/* Looks at the MQTT 3.1.1 packet at a place of the bytes, whole, and says how long it is and how many messages it gives:
+ * one for each filter of a SUBSCRIBE or UNSUBSCRIBE, else one. What stands behind the packet is not looked at. Any place
+ * will do, up to SIZE_MAX. Refuses, in this order: 32 a length field with a fourth continuation bit, 31 a packet of which
+ * bytes are missing, 32 any other breach of chapters 2 and 3 of the standard in a CONNECT, PUBLISH, SUBSCRIBE or
+ * UNSUBSCRIBE, or a reserved type, 33 a topic, filter or client id of over 128 bytes (docs/PACKETS.md). */
+struct HubPacket hub_packet(const uint8_t *bytes, size_t bytes_len, size_t place);
+
+/* Writes the messages of that packet as the lines of a trace, seven for each, to the front of `out`, each with the time
+ * `at` in microseconds and the clock's verdict. The rest of `out` is left as it was. Behind the opening of a trace they are
+ * read back as the same messages (proved). Refuses what hub_packet refuses, then an `out` that the lines do not fit into
+ * with 28; with any refusal nothing is written. A message has at most HUB_MESSAGE_LONGEST bytes of lines (proved). */
+struct HubPacketLines hub_packet_lines(const uint8_t *bytes, size_t bytes_len, size_t place, uint64_t at, bool clock_ok,
+                                       uint8_t *out, size_t out_len);
 
 /* Where the limit stands after a whole trace: the lines of docs/STANDING.md, which follow the answer of hub_trace, or of
  * hub_trace_standard, where they are asked for. They go to the front of `out`, and the rest of it is left as it was.
