@@ -1,1 +1,1 @@
-mod TextLaws
+pub mod TextLaws
