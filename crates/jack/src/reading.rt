@@ -31,7 +31,13 @@ pub extern "C" fn hub_packet(bytes: &[u8], place: usize) -> PacketSize
 
 // Its messages as the lines of a trace, into the caller's buffer: all of them, or none where a number refuses them.
 #[no_mangle]
-pub extern "C" fn hub_packet_lines(bytes: &[u8], place: usize, at: u64, clock_ok: bool, out: &mut [u8]) -> PacketLines
+pub extern "C" fn hub_packet_lines(
+    bytes: &[u8],
+    place: usize,
+    at: u64,
+    clock_ok: bool,
+    out: &mut [u8],
+) -> PacketLines
     ensures answer { λ r. ⌜ r ≡ linesEnd (now (bytes .entry)) place at «clock_ok» (length (now (out .entry))) ⌝ }
     ensures buffer { λ _. ⌜ now (out .exit) ≡ linesKept (now (bytes .entry)) place at «clock_ok» (now (out .entry)) ⌝ }
 {

@@ -58,6 +58,7 @@ module _ (s : List ℕ) (place «now_us» : ℕ) (ok : Bool) where
         topicLong = (part-long s (base + p .from) (base + p .to) (omega (arith, i .ordered)) (omega (arith, to, w)) ∙ omega arith, short);
         payloadLong =
             (part-long s (base + p .rest) (base + p .rest + min (lengthAt bytes 1 .value - p .rest) 256) (omega arith) (omega (arith, rest, w)) ∙ omega arith, omega arith);
+        size = omega arith;
       }
 
   within : (step : ℕ) → messageAt s place step «now_us» ok .number ≡ 0 → Within s place (messageAt s place step «now_us» ok)
@@ -70,6 +71,16 @@ module _ (s : List ℕ) (place «now_us» : ℕ) (ok : Bool) where
       choose P (eqb (pieceRefusal p) 0)
       (λ g _. sent-within p (header-there bytes (eqb-true _ _ h) .1) (piece-in (typeOf bytes) (flagsOf bytes) (bodyIn bytes) step) (piece-short p (eqb-true _ _ g)))
       (λ g e. absurd (eqb-false _ _ g e)))
+      (λ h e. absurd (eqb-false _ _ h e))
+
+  timed : (step : ℕ) → messageAt s place step «now_us» ok .number ≡ 0
+      → (messageAt s place step «now_us» ok .msg .«timestamp_us» ≡ «now_us») × (messageAt s place step «now_us» ok .msg .«timestamp_ok» ≡ ok)
+  unfolding messageFor messageFrom
+  timed step =
+      let P : PacketMessage → Type 0 = λ (m : PacketMessage). m .number ≡ 0 → (m .msg .«timestamp_us» ≡ «now_us») × (m .msg .«timestamp_ok» ≡ ok) in
+      let p = pieceAt (typeOf bytes) (flagsOf bytes) (bodyIn bytes) step in
+      choose P (eqb (headerRefusal bytes) 0)
+      (λ _. choose P (eqb (pieceRefusal p) 0) (λ _ _. (refl, refl)) (λ g e. absurd (eqb-false _ _ g e)))
       (λ h e. absurd (eqb-false _ _ h e))
 
 -- what says how long its parts are is not refused for it
@@ -89,5 +100,6 @@ pub taken : Taken
 taken =
     record {
       within = λ s place step «now_us» ok e. within s place «now_us» ok step e;
+      timed = λ s place step «now_us» ok e. timed s place «now_us» ok step e;
       inspected = λ s place step «now_us» ok e monitor. not-9 s place (messageAt s place step «now_us» ok) (within s place «now_us» ok step e) monitor;
     }

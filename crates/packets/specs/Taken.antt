@@ -19,7 +19,7 @@ topicBytes s m = part s (m .«topic_from») (m .«topic_to»)
 abbrev pub payloadBytes : List ℕ → PacketMessage → List ℕ
 payloadBytes s m = part s (m .«payload_from») (m .«payload_to»)
 
--- a message lies within the packet at a place, behind its header, and says how long its topic and its payload are
+-- a message lies within the packet at a place, behind its header, and says how long its topic and the inspected part of its payload are; its size is one that a trace can say
 pub record Within (s : List ℕ) (place : ℕ) (m : PacketMessage) : Type 0 where
   pub whole : place + sizeOf (drop place s) ≤ length s
   pub topic :
@@ -29,11 +29,16 @@ pub record Within (s : List ℕ) (place : ℕ) (m : PacketMessage) : Type 0 wher
       × (m .«payload_to» ≤ place + sizeOf (drop place s))
   pub topicLong : (length (topicBytes s m) ≡ m .msg .«topic_len») × (m .msg .«topic_len» ≤ 128)
   pub payloadLong : (length (payloadBytes s m) ≡ m .msg .«payload_inspectable_len») × (m .msg .«payload_inspectable_len» ≤ 256)
+  pub size : m .msg .«payload_len» ≤ 65535
 
 pub record Taken : Type 0 where
   pub within :
       (s : List ℕ) (place step «now_us» : ℕ) (ok : Bool) → messageAt s place step «now_us» ok .number ≡ 0
       → Within s place (messageAt s place step «now_us» ok)
+  -- its time and its verdict are the caller's
+  pub timed :
+      (s : List ℕ) (place step «now_us» : ℕ) (ok : Bool) → messageAt s place step «now_us» ok .number ≡ 0
+      → (messageAt s place step «now_us» ok .msg .«timestamp_us» ≡ «now_us») × (messageAt s place step «now_us» ok .msg .«timestamp_ok» ≡ ok)
   -- 9 cannot occur: whatever the monitor, only 10 can refuse it
   pub inspected :
       (s : List ℕ) (place step «now_us» : ℕ) (ok : Bool) → messageAt s place step «now_us» ok .number ≡ 0 → (monitor : MqttMonitor)

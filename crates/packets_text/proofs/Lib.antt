@@ -1,1 +1,1 @@
-mod ReadBack
+pub mod ReadBack

@@ -3,11 +3,13 @@ use mathlib.Core.Bool.{Bool, true, false, cond}
 use mathlib.Core.List.{List, [], _∷_, _++_, map}
 use mathlib.Core.Path.{_≡_, refl, sym, ap, _∙_}
 use Prim.Native.Nat.{ℕ, zero, suc, _+_, _-_, _*_, _≤_, _<_}
-use native.Mathlib.Numerals.{add-one}
+use native.Mathlib.Numerals.{sub-one}
 use native.Mathlib.Omega.{arith}
 use lib.Dec.{eqb, leb}
-use lib.ListN.{length, getD, take, drop, length-append, length-drop}
-use borrow.Author.Tests.{lt-leb}
+use lib.ListN.{length, getD, take, drop, length-take, List·getD-eq-default}
+use lib.Seq.{getD-take, getD-drop}
+use borrow.Author.Tests.{eqb-true}
+use Rattle.laws.proofs.Cases.{by-le}
 use Rattle.laws.specs.Lists.{every}
 use Rattle.slices.specs.Bytes.{bytes, same}
 use Rattle.lines.specs.Hex.{hexText}
@@ -30,9 +32,21 @@ use Rattle.monitor.specs.declared.message.MqttPacketType.the-variants.{Connect,
 use Rattle.monitor.specs.declared.message.MqttPacketType.the-variants.{Subscribe, SubAck, Unsubscribe, UnsubAck, PingReq, PingResp, Disconnect, Auth}
 use Rattle.trace.specs.Groups.{message1, message2, message3, message4, message5, message6, message7, messageAt, topicIn, payloadIn}
 use Rattle.trace.specs.declared.groups.MessageLines.{MessageLines}
+use Rattle.trace.proofs.groups.GroupLaws.{message-within, message-further}
+use Rattle.trace.proofs.run.RunLaws.{left-turn}
+use Rattle.packets.specs.Messages.{messagesAt}
+use Rattle.packets.specs.Messages as packet
+use Rattle.packets.specs.Packet.{packetAt}
+use Rattle.packets.specs.Steps.{stepped}
+use Rattle.packets.specs.Taken.{topicBytes, payloadBytes}
+use Rattle.packets.specs.declared.messages.PacketMessage.{PacketMessage}
+use Rattle.packets.proofs.Steps.{steps}
+use Rattle.packets.proofs.Taken.{taken}
 use Rattle.packets_text.specs.MessageText.{clockNumber, messageLines, messageText}
-use Rattle.packets_text.specs.ReadBack.{IsBytes, Writable, Reads, callOf, sentAll, ReadBack}
-use Rattle.packets_text.proofs.message.TextLaws.{type-small, qos-small}
+use Rattle.packets_text.specs.PacketText.{textOf, textsOf, packetText}
+use Rattle.packets_text.specs.ReadBack.{IsBytes, Writable, Reads, callOf, sentAll, readFrom, ReadBack}
+use Rattle.packets_text.proofs.message.TextLaws.{type-small, qos-small, lines-short}
+use Rattle.packets_text.proofs.written.WrittenLaws.{left, Good, good-both, first-text, first-good}
 
 -- a number names what it is the number of
 type-back : (k : MqttPacketType) → (typeAt (typeNumber k) ≡ k) × (1 ≤ typeNumber k)
@@ -168,11 +182,11 @@ module _ {s : List ℕ} {at r : ℕ} (msg : MqttMessage) (topic payload : List �
   read =
       let e1 = number-there (bytes "at=") 0 18446744073709551615 refl (msg .«timestamp_us») (omega arith) (w .time) (stands-first T (C ++ (K ++ (Q ++ (N ++ (Z ++ P))))) all) in
       let e2 =
-          word-there (bytes "clock=") (bytes "ok|bad") refl refl refl (clockNumber (msg .«timestamp_ok»)) (clock-back (msg .«timestamp_ok») .1)
-          (stands-first C (K ++ (Q ++ (N ++ (Z ++ P)))) behind1) in
+      word-there (bytes "clock=") (bytes "ok|bad") refl refl refl (clockNumber (msg .«timestamp_ok»)) (clock-back (msg .«timestamp_ok») .1)
+      (stands-first C (K ++ (Q ++ (N ++ (Z ++ P)))) behind1) in
       let e3 =
-          number-there (bytes "type=") 1 15 refl (typeNumber (msg .«packet_type»)) (type-back (msg .«packet_type») .1) (type-small (msg .«packet_type»))
-          (stands-first K (Q ++ (N ++ (Z ++ P))) behind2) in
+      number-there (bytes "type=") 1 15 refl (typeNumber (msg .«packet_type»)) (type-back (msg .«packet_type») .1) (type-small (msg .«packet_type»))
+      (stands-first K (Q ++ (N ++ (Z ++ P))) behind2) in
       let e4 = number-there (bytes "qos=") 0 2 refl (qosNumber (msg .qos)) (omega arith) (qos-small (msg .qos)) (stands-first Q (N ++ (Z ++ P)) behind3) in
       let e5 = hex-there (bytes "topic=") 128 refl topic (w .topicBytes) topic-short topicThere in
       let e6 = number-there (bytes "size=") 0 65535 refl (msg .«payload_len») (omega arith) (w .size) (stands-first Z P behind5) in
@@ -194,3 +208,66 @@ module _ {s : List ℕ} {at r : ℕ} (msg : MqttMessage) (topic payload : List �
         topic = rw read (rw e5 at (hex-bytes (bytes "topic=") 128 refl topic (w .topicBytes) topic-short topicThere));
         payload = rw read (rw e7 at (hex-bytes (bytes "payload=") 256 refl payload (w .payloadBytes) payload-short behind6));
       }
+
+-- the lines are not longer
+text-short : (msg : MqttMessage) (topic payload : List ℕ) → Writable msg topic payload → length (messageText msg topic payload) ≤ 843
+unfolding messageText
+text-short msg topic payload w =
+    lines-short (msg .«timestamp_us») (clockNumber (msg .«timestamp_ok»)) (typeNumber (msg .«packet_type»)) (qosNumber (msg .qos)) topic (msg .«payload_len») payload
+    (omega (arith, w .time)) (type-small (msg .«packet_type»)) (qos-small (msg .qos)) (omega (arith, w .topicLong .0, w .topicLong .1)) (omega (arith, w .size))
+    (omega (arith, w .payloadLong .0, w .payloadLong .1))
+
+-- a part of bytes is bytes
+part-bytes : (s : List ℕ) (from to : ℕ) → IsBytes s → IsBytes (part s from to)
+part-bytes s from to b i =
+    by-le (to - from) i (λ h. let z = List·getD-eq-default (part s from to) 0 {n = i} (omega (arith, h, length-take (to - from) (drop from s))) in omega (arith, z))
+    (λ h. rw (getD-take (to - from) (drop from s) i 0 h, getD-drop from s i 0) (b (from + i)))
+
+module _ (buffer : List ℕ) (place «now_us» : ℕ) (ok : Bool) (b : IsBytes buffer) (n : «now_us» ≤ 18446744073709551615) where
+  -- a message that was handed out can be written
+  writable : (step : ℕ) {m : PacketMessage} → m ≡ packet.messageAt buffer place step «now_us» ok → m .number ≡ 0 → Writable (m .msg) (topicBytes buffer m) (payloadBytes buffer m)
+  writable step {m} e z =
+      let w = taken .within buffer place step «now_us» ok (rw e at z) in
+      let t = taken .timed buffer place step «now_us» ok (rw e at z) in
+      let h = packet.messageAt buffer place step «now_us» ok in
+      rw e
+      (record {
+        time = omega (arith, t .0, n);
+        size = w .size;
+        topicLong = w .topicLong;
+        payloadLong = w .payloadLong;
+        topicBytes = part-bytes buffer (h .«topic_from») (h .«topic_to») b;
+        payloadBytes = part-bytes buffer (h .«payload_from») (h .«payload_to») b;
+      })
+
+  -- so many messages from a step on are read, and then what follows
+  all-read : (k step : ℕ) → Good buffer place «now_us» ok k step → (s : List ℕ) (at r line : ℕ) → Stands s at (textsOf buffer (left buffer place «now_us» ok k step)) r
+      → readFrom s at line ≡ sentAll (map (callOf buffer) (left buffer place «now_us» ok k step)) (readFrom s r (line + k * 7))
+  unfolding stepped textsOf sentAll
+  all-read zero step g s at r line a =
+      let e : r ≡ at = omega (arith, a .next) in
+      let l : line + 0 * 7 ≡ line = omega arith in
+      rw (e, l)
+  all-read (suc k) step g s at r line a =
+      let m = packet.messageAt buffer place step «now_us» ok in
+      let t = textOf buffer m in
+      let u = textsOf buffer (left buffer place «now_us» ok k (m .next)) in
+      let z = good-both buffer place «now_us» ok {k = suc k} step (omega arith) refl g in
+      let x = reads (m .msg) (topicBytes buffer m) (payloadBytes buffer m) (writable step refl (eqb-true _ _ (z .0))) (stands-first t u a) in
+      let h = all-read k (m .next) (rw sub-one at (z .1)) s (at + length t) r (line + 7) (stands-second t u a) in
+      let i = message-within s at refl in
+      let f = message-further s at (x .number) in
+      let l : line + 7 + k * 7 ≡ line + suc k * 7 = omega arith in
+      left-turn s at line (omega (arith, i .after, f)) (x .number) ∙ rw (x .msg, x .topic, x .payload, x .next, h, l)
+
+pub read-back : ReadBack
+read-back =
+    record {
+      message = λ {s} {at} {r} {msg} {topic} {payload} w a. reads msg topic payload w a;
+      packet = λ buffer place «now_us» ok b n z s at r line a.
+          let g = first-good buffer place «now_us» ok refl z in
+          let t = first-text buffer place «now_us» ok refl z in
+          let o = steps .inOrder buffer place «now_us» ok z in
+          rw (← o) (all-read buffer place «now_us» ok b n (packetAt buffer place .messages) (packetAt buffer place .first) g s at r line (rw t a));
+      short = λ msg topic payload w. text-short msg topic payload w;
+    }

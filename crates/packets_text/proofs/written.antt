@@ -1,1 +1,1 @@
-mod WrittenLaws
+pub mod WrittenLaws

@@ -47,16 +47,19 @@ unfoldable pub sentAll : List Call → Messages → Messages
 sentAll [] ms = ms
 sentAll (x ∷ xs) ms = sentFirst x (sentAll xs ms)
 
+-- what is read of a trace's text from a place on, so many lines being read before it
+abbrev pub readFrom : List ℕ → ℕ → ℕ → Messages
+readFrom s at line = messagesFrom (length s + 1) s at line
+
 pub record ReadBack : Type 0 where
   -- where the lines of a message stand in a text, the trace's reader reads that message
   pub message :
       {s : List ℕ} {at r : ℕ} {msg : MqttMessage} {topic payload : List ℕ} → Writable msg topic payload → Stands s at (messageText msg topic payload) r
       → Reads s at r msg topic payload
-  -- where those of a packet stand, all of its messages are read, in order, and then what follows; `more` is how many messages more may be read
+  -- where those of a packet stand, all of its messages are read, in order, and then what follows, seven lines for each being read
   pub packet :
       (bytes : List ℕ) (place «now_us» : ℕ) (ok : Bool) → IsBytes bytes → «now_us» ≤ 18446744073709551615 → packetAt bytes place .number ≡ 0
-      → (s : List ℕ) (at r line more : ℕ) → Stands s at (packetText bytes place «now_us» ok) r
-      → messagesFrom (packetAt bytes place .messages + more) s at line
-      ≡ sentAll (map (callOf bytes) (messagesAt bytes place «now_us» ok)) (messagesFrom more s r (line + packetAt bytes place .messages * 7))
+      → (s : List ℕ) (at r line : ℕ) → Stands s at (packetText bytes place «now_us» ok) r
+      → readFrom s at line ≡ sentAll (map (callOf bytes) (messagesAt bytes place «now_us» ok)) (readFrom s r (line + packetAt bytes place .messages * 7))
   -- the lines of a message are not longer
   pub short : (msg : MqttMessage) (topic payload : List ℕ) → Writable msg topic payload → length (messageText msg topic payload) ≤ 843

@@ -84,7 +84,7 @@ module _ (t c k q : ℕ) (n : List ℕ) (z : ℕ) (p : List ℕ) where
       + length (hexLine (bytes "topic=") n) + length (numberLine (bytes "size=") z) + length (hexLine (bytes "payload=") p)
   text-length = ap length (sym (lines-text t c k q n z p)) ∙ (simp length-append)
 
-  lines-short : t < 2 ^ 64 → k ≤ 15 → q ≤ 2 → length n ≤ 128 → z < 65536 → length p ≤ 256 → length (messageLines .text (t, (c, (k, (q, (n, (z, p))))))) ≤ 843
+  pub lines-short : t < 2 ^ 64 → k ≤ 15 → q ≤ 2 → length n ≤ 128 → z < 65536 → length p ≤ 256 → length (messageLines .text (t, (c, (k, (q, (n, (z, p))))))) ≤ 843
   unfolding every firstWord restWords
   lines-short ht hk hq hn hz hp =
       omega (

@@ -30,7 +30,7 @@ module _ (s : List ℕ) (place «now_us» : ℕ) (ok : Bool) where
   left k step = stepped k s place step «now_us» ok
 
   -- none of them is refused
-  abbrev isGood : PacketMessage → Bool
+  abbrev pub isGood : PacketMessage → Bool
   isGood m = eqb (m .number) 0
 
   abbrev pub Good : ℕ → ℕ → Type 0
@@ -46,7 +46,7 @@ module _ (s : List ℕ) (place «now_us» : ℕ) (ok : Bool) where
     turn : left k step ≡ m ∷ left (k - 1) (m .next)
     turn = rw e (one k step h)
 
-    good-both : Good k step → (isGood m ≡ true) × Good (k - 1) (m .next)
+    pub good-both : Good k step → (isGood m ≡ true) × Good (k - 1) (m .next)
     unfolding every
     good-both g = both (isGood m) (every isGood (left (k - 1) (m .next))) (rw turn at g)
 
