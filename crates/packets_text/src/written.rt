@@ -105,6 +105,7 @@ pub fn packet_lines(
 ) -> PacketLines
     ensures answer { λ r. ⌜ r ≡ linesEnd (now (bytes .entry)) place «now_us» ok (length (now (out .entry))) ⌝ }
     ensures buffer { λ _. ⌜ now (out .exit) ≡ linesKept (now (bytes .entry)) place «now_us» ok (now (out .entry)) ⌝ }
+    ensures within { λ r. ⌜ r .length ≤ length (now (out .entry)) ⌝ }
 {
     let p = read_packet(bytes, place);
     if p.number != 0 {

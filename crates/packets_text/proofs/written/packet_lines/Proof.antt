@@ -23,7 +23,7 @@ no-lines-requires c κs = search needs
 
 -- src/written.rt:111:9
 returns : tie.Need-returns
-returns c = let e = end-refused _ _ _ _ (c .before .before .before .before .before .before .args .out .now) (refused-packet _ _ _ _ (c .before .before .before .read-packet .ensures .0) (c .before .if1 .taken) _) (c .before .if1 .taken) in (c .no-lines .ensures ∙ e .0, e .1)
+returns c = let e = end-refused _ _ _ _ (c .before .before .before .before .before .before .args .out .now) (refused-packet _ _ _ _ (c .before .before .before .read-packet .ensures .0) (c .before .if1 .taken) _) (c .before .if1 .taken) in (c .no-lines .ensures ∙ e .0, (e .1, rw (c .no-lines .ensures) (omega arith)))
 
 -- src/written.rt:113:9
 texts-len-requires : tie.Need-texts-len-requires
@@ -35,7 +35,7 @@ no-lines-requires-2 c κs = search needs
 
 -- src/written.rt:115:9
 returns-2 : tie.Need-returns-2
-returns-2 c = let e = end-refused _ _ _ _ (c .before .before .before .before .before .before .before .before .args .out .now) (refused-room _ _ _ _ (c .before .before .before .before .before .read-packet .ensures .0) (c .before .before .before .if1 .left) _ (rw (c .before .before .texts-len .ensures) at (c .before .if2 .taken))) (λ z. absurd (omega arith)) in (c .no-lines2 .ensures ∙ e .0, e .1)
+returns-2 c = let e = end-refused _ _ _ _ (c .before .before .before .before .before .before .before .before .args .out .now) (refused-room _ _ _ _ (c .before .before .before .before .before .read-packet .ensures .0) (c .before .before .before .if1 .left) _ (rw (c .before .before .texts-len .ensures) at (c .before .if2 .taken))) (λ z. absurd (omega arith)) in (c .no-lines2 .ensures ∙ e .0, (e .1, rw (c .no-lines2 .ensures) (omega arith)))
 
 -- src/written.rt:117:5
 put-texts-requires : tie.Need-put-texts-requires
@@ -50,7 +50,7 @@ returns-3 : tie.Need-returns-3
 returns-3 c =
     let start = c .before .before .before .before .before .before .before .before .before .before .before in
     let r = refused-none _ _ _ _ (c .before .before .before .before .before .before .before .before .read-packet .ensures .0) (c .before .before .before .before .before .before .if1 .left) (length (start .args .out .now)) (rw (c .before .before .before .before .before .texts-len .ensures) at (c .before .before .before .before .if2 .left)) in
-    (end-whole _ _ _ _ (start .args .out .now) r (c .before .before .before .before .before .texts-len .ensures), c .before .before .put-texts .ensures ∙ kept-whole _ _ _ _ (start .args .out .now) r)
+    (end-whole _ _ _ _ (start .args .out .now) r (c .before .before .before .before .before .texts-len .ensures), (c .before .before .put-texts .ensures ∙ kept-whole _ _ _ _ (start .args .out .now) r, c .before .before .before .before .if2 .left))
 
 pub packet-lines-spec : {M : Type 1} → statement M
 packet-lines-spec =
