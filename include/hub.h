@@ -17,9 +17,10 @@
  * any thread. A bool is 0 or 1.
  *
  * Stack, in bytes below the caller, by measurement (rattle-kit-5b, x86-64; `bin/measure stack` measures again): those of
- * the standing reach 82,392, those of traces 30,258, hub_settings 14,658, every other call at most 256, less not being
- * told apart. Whole, cut and damaged texts were tried; by the disassembly no function of libhub.a or libboot.a calls
- * itself, no frame grows with its input, and the frames add up to no more. libdesk.a was measured alone. */
+ * the standing reach 82,392, those of traces 30,258, hub_settings 14,658, hub_packet_lines 688, hub_packet 336, every
+ * other call at most 256, less not being told apart. Whole, cut and damaged texts and packets were tried; by the
+ * disassembly no function of libhub.a, libboot.a or libjack.a calls itself, no frame grows with its input, and the frames
+ * add up to no more. libdesk.a was measured alone. */
 #ifndef HUB_H
 #define HUB_H
 

@@ -1,24 +1,29 @@
 # counting.sh: what the parts of bin/measure share that count instructions: hosts over the Rust original and an archive, and tables of what callgrind counts in
 # them, both sides on the same input in the same run. bin/measure reads it, in the repository's folder, with $room a folder for the run.
 
-# The original, built once a run. What is counted is x86-64: the archive, the names that callgrind is told, the way in which a stack is painted.
-original() {
+# What is counted is x86-64: the archive, the names that callgrind is told, the way in which a stack is painted.
+counting() {
     if [ "$(uname -m)" != x86_64 ]; then
         echo 'measure: instructions and stacks are counted on x86-64 only; run this part there' >&2
         exit 1
     fi
+}
+
+# The original, built once a run.
+original() {
+    counting
     [ -e "$room/built" ] || oracle/build
     touch "$room/built"
 }
 
-# host [--lto] NAME: builds a program of oracle/src over the original and the archives of hub, desk and boot.
+# host [--lto] NAME: builds a program of oracle/src over the original and the archives of hub, desk, boot and jack.
 host() {
     original
     if [ -z "${HUB_ARCHIVE-}" ]; then
-        for crate in hub desk boot; do oracle/archive "$crate" >&2; done
+        for crate in hub desk boot jack; do oracle/archive "$crate" >&2; done
         HUB_ARCHIVE=$root/target/staticlib
     fi
-    oracle/host "$@" "$HUB_ARCHIVE" hub desk boot
+    oracle/host "$@" "$HUB_ARCHIVE" hub desk boot jack
 }
 
 # The traces that we measure with, in $room/traces.
@@ -29,12 +34,12 @@ written() {
     target/oracle/benchtraces write "$room/traces"
 }
 
-# counts NAMES HOST WORDS...: counts inside hub_NAME and rust_NAME while the host runs. $room/counts then has a line for each row: its name, its parts, both
-# counts. Each return of row_done ends one count, in a file of its own: the odd ones are ours.
+# counts NAMES HOST WORDS...: counts inside hub_NAME, rust_NAME and paho_NAME while the host runs. $room/counts then has a line for each row: its name, its
+# parts, both counts. Each return of row_done ends one count, in a file of its own: the odd ones are ours.
 counts() {
     counted=
     for name in $1; do
-        counted="$counted --toggle-collect=hub_$name --toggle-collect=rust_$name"
+        counted="$counted --toggle-collect=hub_$name --toggle-collect=rust_$name --toggle-collect=paho_$name"
     done
     shift
     valgrind --quiet --tool=callgrind --collect-atstart=no $counted --dump-after=row_done \

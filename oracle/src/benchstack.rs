@@ -1,9 +1,16 @@
-//! benchstack FILE..: the deepest stack of every export of the archive, for bin/measure and include/hub.h. The files
+//! benchstack FILE..: the deepest stack of every export of the archives, for bin/measure and include/hub.h. The files
 //! are traces; what the other calls are given is made here.
 
+mod checks;
+mod drafts;
 mod hub;
+mod make;
+mod measured;
+mod mqtt;
 mod stack;
+mod tally;
 
+use drafts::Draft;
 use hub::HubTrace;
 use std::hint::black_box;
 
@@ -43,6 +50,18 @@ fn main() {
     row("hub_settings", || {
         for text in &settings {
             black_box([0, text.len() / 2, ENOUGH].map(|long| hub::settings(text, 1, &mut room[..long])));
+        }
+    });
+    let packets: Vec<Vec<u8>> = packets().iter().flat_map(|packet| variants(packet)).collect();
+    row("hub_packet", || packets.iter().for_each(|bytes| _ = black_box(hub::packet(bytes, 0))));
+    let mut rooms = Vec::new();
+    for bytes in &packets {
+        let length = hub::packet_lines(bytes, 0, u64::MAX, false, &mut room).length;
+        rooms.extend([0, length / 2, length, ENOUGH].map(|long| (bytes, long)));
+    }
+    row("hub_packet_lines", || {
+        for (bytes, long) in &rooms {
+            black_box(hub::packet_lines(bytes, 0, u64::MAX, false, &mut room[..*long]));
         }
     });
     row("hub_standing", || traces.iter().for_each(|text| _ = hub::standing(text, &mut room)));
@@ -88,6 +107,12 @@ fn settings(rules: u8) -> Vec<u8> {
         text += &format!("pattern={}\naction=allow\nqos=only2\nrate=65535\n", format!("{letter:02x}").repeat(64));
     }
     text.into_bytes()
+}
+
+/// Packets of every shape, short ones and those that are counted.
+fn packets() -> Vec<Vec<u8>> {
+    let counted = measured::packets().into_iter().map(|(_, bytes)| bytes);
+    drafts::examples().iter().map(Draft::bytes).chain(counted).collect()
 }
 
 /// A text, and what can go wrong with it: an end in many places, a bad byte in many places, too many bytes.
