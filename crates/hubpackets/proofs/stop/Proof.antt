@@ -1,3 +1,7 @@
+use mathlib.Core.Path.{sym}
+use lib.Seq.{length-take-le}
+use native.Mathlib.Omega.{arith}
+use Rattle.lines.proofs.put.WroteLaws.{wrote-length}
 use borrow.Author.Needs.{needs}
 use Rattle.hubpackets.proofs.stop.Statement.{statement}
 use Rattle.hubpackets.proofs.stop.Tie as tie
@@ -32,11 +36,11 @@ put-number-line-requires-2 c κs = search needs
 
 -- src/main.rt:42:34
 array-share-prefix-said : tie.Need-array-share-prefix-said
-array-share-prefix-said c = search needs
+array-share-prefix-said c = omega (arith, c .before .put-number-line2 .ensures .next, c .before .before .before .before .before .put-number-line .ensures .next)
 
 -- src/main.rt:42:34
 slice-aggregate-write-all : tie.Need-slice-aggregate-write-all
-slice-aggregate-write-all c = ?
+slice-aggregate-write-all c = sym (length-take-le _ _ (omega (arith, c .before .before .put-number-line2 .ensures .next, c .before .before .before .before .before .before .put-number-line .ensures .next)))
 
 -- src/main.rt:42:5
 write-all-requires : tie.Need-write-all-requires

@@ -1,3 +1,12 @@
+use mathlib.Core.List.{_∷_}
+use mathlib.Core.Path.{sym, _∙_}
+use native.Mathlib.Omega.{arith}
+use lib.ListN.{length}
+use borrow.Author.Tests.{not-true, not-false}
+use Rattle.laws.proofs.Lists.{tail-whole}
+use Rattle.slices.specs.Bytes.{bytes}
+use Rattle.slices.proofs.bytes.WalkLaws.{begins-fits}
+use Rattle.hubpackets.specs.Asked.{askedWith}
 use borrow.Author.Needs.{needs}
 use Rattle.hubpackets.proofs.asked.with_word.Statement.{statement}
 use Rattle.hubpackets.proofs.asked.with_word.Tie as tie
@@ -18,7 +27,8 @@ same-bytes-requires c κs = search needs
 
 -- src/asked.rt:43:9
 returns : tie.Need-returns
-returns c = ?
+unfolding askedWith
+returns c = rw (sym (c .before .same-bytes .ensures) ∙ c .if1 .taken)
 
 -- src/asked.rt:49:19
 slice-aggregate-same-bytes-2 : tie.Need-slice-aggregate-same-bytes-2
@@ -30,7 +40,8 @@ same-bytes-requires-2 c κs = search needs
 
 -- src/asked.rt:50:9
 returns-2 : tie.Need-returns-2
-returns-2 c = ?
+unfolding askedWith
+returns-2 c = rw (sym (c .before .before .before .before .same-bytes .ensures) ∙ c .before .before .before .if1 .left, sym (c .before .same-bytes2 .ensures) ∙ c .if2 .taken)
 
 -- src/asked.rt:56:27
 slice-aggregate-starts-with : tie.Need-slice-aggregate-starts-with
@@ -46,19 +57,20 @@ unknown-requires c κs = search needs
 
 -- src/asked.rt:57:9
 returns-3 : tie.Need-returns-3
-returns-3 c = ?
+unfolding askedWith
+returns-3 c = let b = sym (c .before .before .starts-with .ensures) ∙ not-true _ (c .before .if3 .taken) in rw (sym (c .before .before .before .before .before .before .before .before .same-bytes .ensures) ∙ c .before .before .before .before .before .before .before .if1 .left, sym (c .before .before .before .before .before .same-bytes2 .ensures) ∙ c .before .before .before .before .if2 .left, b) (c .unknown .ensures)
 
 -- src/asked.rt:59:24
 sub-decimal : tie.Need-sub-decimal
-sub-decimal c = ?
+sub-decimal c = let h = begins-fits (bytes "--at=") _ (sym (c .before .starts-with .ensures) ∙ not-false _ (c .if3 .left)) in omega (arith, h)
 
 -- src/asked.rt:59:24
 part-decimal-start : tie.Need-part-decimal-start
-part-decimal-start c = ?
+part-decimal-start c = let h = begins-fits (bytes "--at=") _ (sym (c .before .starts-with .ensures) ∙ not-false _ (c .if3 .left)) in omega (arith, h)
 
 -- src/asked.rt:59:24
 part-decimal-end : tie.Need-part-decimal-end
-part-decimal-end c = search needs
+part-decimal-end c = let h = begins-fits (bytes "--at=") _ (sym (c .before .starts-with .ensures) ∙ not-false _ (c .if3 .left)) in omega (arith, h)
 
 -- src/asked.rt:59:9
 decimal-requires : tie.Need-decimal-requires
@@ -78,11 +90,25 @@ unknown-requires-2 c κs = search needs
 
 -- src/asked.rt:39:1
 returns-4 : tie.Need-returns-4
-returns-4 c = ?
+unfolding askedWith
+returns-4 c =
+    let word = c .before .before .before .before .before .before .before .before .before .before .before .before .before .before .before .args .word .now in
+    let first = sym (c .before .before .before .before .before .before .before .before .before .before .before .before .same-bytes .ensures) ∙ c .before .before .before .before .before .before .before .before .before .before .before .if1 .left in
+    let second = sym (c .before .before .before .before .before .before .before .before .before .same-bytes2 .ensures) ∙ c .before .before .before .before .before .before .before .before .if2 .left in
+    let key = sym (c .before .before .before .before .before .before .starts-with .ensures) ∙ not-false _ (c .before .before .before .before .before .if3 .left) in
+    let time = sym (c .before .before .before .decimal .ensures) ∙ c .before .time .given .1 in
+    rw (first, second, key, ← tail-whole word 5, time)
 
 -- src/asked.rt:39:1
 returns-5 : tie.Need-returns-5
-returns-5 c = ?
+unfolding askedWith
+returns-5 c =
+    let word = c .before .before .before .before .before .before .before .before .before .before .before .before .before .before .before .args .word .now in
+    let first = sym (c .before .before .before .before .before .before .before .before .before .before .before .before .same-bytes .ensures) ∙ c .before .before .before .before .before .before .before .before .before .before .before .if1 .left in
+    let second = sym (c .before .before .before .before .before .before .before .before .before .same-bytes2 .ensures) ∙ c .before .before .before .before .before .before .before .before .if2 .left in
+    let key = sym (c .before .before .before .before .before .before .starts-with .ensures) ∙ not-false _ (c .before .before .before .before .before .if3 .left) in
+    let time = sym (c .before .before .before .decimal .ensures) ∙ c .before .enum-told .given .1 in
+    rw (first, second, key, ← tail-whole word 5, time) (c .unknown2 .ensures)
 
 pub with-word-spec : {M : Type 1} → statement M
 with-word-spec =
