@@ -10,6 +10,10 @@ use Rattle.monitor.proofs.Reached.{sound-always, sendable-always}
 use Rattle.monitor.proofs.Total.{total-is-sum}
 use Rattle.monitor.proofs.Unbroken.{unbroken-always}
 use Rattle.trace.proofs.AsRun.{same-read}
+use Rattle.packets.proofs.Missing.{missing}
+use Rattle.packets.proofs.Steps.{steps}
+use Rattle.packets.proofs.Taken.{taken}
+use Rattle.packets_text.proofs.ReadBack.{read-back}
 use Rattle.theorems.specs.Claims.{Claims}
 use Rattle.theorems.proofs.Corners.{corners}
 use Rattle.theorems.proofs.Exactness.{exactness}
@@ -48,6 +52,10 @@ claims =
       looped = loop-limits;
       read-alike = same-read;
       settings = saved-settings;
+      missing-bytes = missing;
+      packet-steps = steps;
+      packet-taken = taken;
+      read-back = read-back;
       chosen = chosen;
       sound = sound-always;
       unbroken = unbroken-always;

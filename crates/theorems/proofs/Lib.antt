@@ -4,9 +4,12 @@ mod AnswersCut
 mod AnswersDesk
 mod AnswersForms
 mod AnswersHub
+mod AnswersJack
 mod AnswersLines
 mod AnswersLoops
 mod AnswersMonitor
+mod AnswersPackets
+mod AnswersPackets_text
 mod AnswersRules_text
 mod AnswersRuns
 mod AnswersSettings

@@ -9,6 +9,10 @@ use Rattle.monitor.specs.Chosen.{Chosen}
 use Rattle.monitor.specs.Reached.{SoundAlways, UnbrokenAlways, SendableAlways}
 use Rattle.monitor.specs.Told.{DeniedByKind, AtMostFour, NoneDropped, TotalIsSum}
 use Rattle.trace.specs.AsRun.{ReadAlike}
+use Rattle.packets.specs.Missing.{Missing}
+use Rattle.packets.specs.Steps.{Steps}
+use Rattle.packets.specs.Taken.{Taken}
+use Rattle.packets_text.specs.ReadBack.{ReadBack}
 use Rattle.theorems.specs.Corners.{Corners}
 use Rattle.theorems.specs.Guider.{Guider}
 use Rattle.theorems.specs.Limits.{Upper, LowerFirst, LowerLater}
@@ -67,6 +71,14 @@ pub record Claims : Type 0 where
   -- byte for byte; so accepted texts and settings correspond one to one. A text of form 1 goes to form 2 and back to the same bytes, and so does one of form 2 that says port to form 1 and back; 37
   -- refuses exactly those that say standard. A loaded monitor is one that calls make, and demand 3 holds from it
   pub settings : SavedSettings
+  -- PACKETS (request C-11). 31 exactly when bytes are missing: an answer that is not 31 stays as it is whatever follows, and one that is 31 becomes another when the bytes that are missing are there
+  pub missing-bytes : Missing
+  -- whoever steps through a packet that is not refused gets its messages, as many as it says and in their order
+  pub packet-steps : Steps
+  -- every message that comes out, at whatever place and step, lies within its packet, and `inspect` takes it: 9 cannot occur
+  pub packet-taken : Taken
+  -- and the trace's reader reads back the lines that are written of a packet as its messages, in order, and then what follows
+  pub read-back : ReadBack
   -- A MONITOR'S MATCHER is the one that its constructor chose: every call keeps it, runs take it throughout, and by it the rules are chosen level by level
   pub chosen : Chosen
   -- ONE INSPECTION AND MANY. Every state that calls hand out is sound, so number 10 is never met in one
