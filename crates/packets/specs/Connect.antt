@@ -50,7 +50,7 @@ unfoldable pub clientNamed : ℕ → Field → Bool
 clientNamed f client = isSet 2 f || ltb (client .from) (client .next)
 
 -- [MQTT-3.1.3-1] behind the client id stand, in this order: will topic and will message, user name, password
--- [MQTT-3.1.2-9], [MQTT-3.1.2-18] to [MQTT-3.1.2-21] each where its flag is set, and only there
+-- [MQTT-3.1.2-9], [MQTT-3.1.2-11], [MQTT-3.1.2-18] to [MQTT-3.1.2-21] each where its flag is set, and only there, since nothing may stand behind the last
 -- [MQTT-3.1.3-10], [MQTT-3.1.3-11] will topic and user name are strings
 unfoldable pub connectTail : ℕ → List ℕ → Field → Field
 connectTail f b client =

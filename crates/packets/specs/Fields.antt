@@ -13,6 +13,7 @@ use Rattle.packets.specs.declared.fields.Field.{Field}
 
 -- [MQTT-1.5.3-1] the bytes of a string are well formed UTF-8, with no surrogate
 -- [MQTT-1.5.3-2] U+0000 is not among its characters
+-- [MQTT-1.5.3-3] U+FEFF is a character as any other
 unfoldable pub isString : List ℕ → Bool
 isString s =
     isUtf8 s

@@ -30,7 +30,7 @@ requestFine q = q .fine && ltb (q .value) 3
 unfoldable pub filterFrom : List ℕ → Field → Field → Piece
 filterFrom b f q = cond (requestFine q) (pieceOf (q .value) (f .from) (f .next) (length b) (q .next)) noPiece
 
--- [MQTT-3.8.3-1], [MQTT-3.10.3-1] the filter at a place; in a SUBSCRIBE the QoS that it asks for follows
+-- 3.8.3, 3.10.3: the filter at a place; in a SUBSCRIBE the QoS that it asks for follows
 unfoldable pub filterAt : Bool → List ℕ → ℕ → Piece
 filterAt subscribe b at = filterFrom b (dataField b (begin at)) (byteIf subscribe b (dataField b (begin at)))
 

@@ -23,7 +23,7 @@ pieceOf qos from to rest next = record { fine = true; qos = qos; from = from; to
 abbrev pub plainPiece : List ℕ → Piece
 plainPiece b = pieceOf 0 0 0 (length b) (length b)
 
--- [MQTT-1.5.3-1], [MQTT-1.5.3-2] the piece was read, and its topic is a string
+-- [MQTT-3.1.3-4], [MQTT-3.3.2-1], [MQTT-3.8.3-1], [MQTT-3.10.3-1] the piece was read, and what becomes its topic, a client id, a name or a filter, is a string
 unfoldable pub goodPiece : List ℕ → Piece → Bool
 goodPiece b p = p .fine && isString (part b (p .from) (p .to))
 

@@ -110,7 +110,8 @@ fn message_for(s: &[u8], place: usize, step: usize, now_us: u64, ok: bool) -> Pa
     message_from(h, place, now_us, ok, p)
 }
 
-// The message at a step of the packet at a place; any place, and any step. The steps are those that `read_packet` and this call hand out.
+// The message at a step of the packet at a place; any place, and any step. The steps are those that `read_packet` and this call hand out. What `read_packet` tested is not tested again: ask it first,
+// since of a packet that it refuses this may hand out a message all the same.
 pub fn message_at(bytes: &[u8], place: usize, step: usize, now_us: u64, ok: bool) -> PacketMessage
     ensures { λ r. ⌜ r ≡ messageAt (now (bytes .entry)) place step «now_us» ok ⌝ }
 {
