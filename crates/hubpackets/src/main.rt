@@ -1,5 +1,6 @@
-// hubpackets: captured bytes on standard input, the lines of their messages on standard output, packet after packet (request C-11). All of the work is `packet_lines` of `packets_text::written`, packet
-// by packet; here are only the two buffers, the way from one packet to the next, and the way in and out. What `read` and `write` move, and the words behind the program's name, are the C library's word.
+// hubpackets: captured bytes on standard input, the lines of their messages on standard output, packet after packet (request C-11). All of the work is `packet_lines` of `packets_text::written`,
+// packet by packet; here are only the two buffers, the way from one packet to the next, and the way in and out. What `read` and `write` move, and the words behind the program's name, are the C
+// library's word.
 // A program has no exit status of its own: it says on standard error what failed, and nothing where nothing did. `bin/hubpackets` makes a status of that. Where a capture stops being MQTT 3.1.1 the
 // number and the byte are said there too, and what stands before that packet has been written.
 pub mod asked;

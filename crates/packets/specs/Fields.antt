@@ -1,5 +1,5 @@
--- MQTT 3.1.1, section 1.5: the fields that a packet's body is made of. A body is a chain of fields, each read behind the one before it. One that runs past the body's end, or is no string where a string
--- must stand, is broken, and so is every field behind a broken one. So a chain needs one test, at its end.
+-- MQTT 3.1.1, section 1.5: the fields that a packet's body is made of. A body is a chain of fields, each read behind the one before it. One that runs past the body's end, or is no
+-- string where a string must stand, is broken, and so is every field behind a broken one. So a chain needs one test, at its end.
 -- Assumes nothing.
 use mathlib.Core.Bool.{Bool, true, false, cond, not, _&&_}
 use mathlib.Core.List.{List}

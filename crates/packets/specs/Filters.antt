@@ -1,5 +1,5 @@
--- MQTT 3.1.1, sections 3.8 and 3.10: the bodies of a SUBSCRIBE and of an UNSUBSCRIBE: a packet identifier, then filters up to the body's end. The walk takes any reader of a filter: request C-22 has its
--- own.
+-- MQTT 3.1.1, sections 3.8 and 3.10: the bodies of a SUBSCRIBE and of an UNSUBSCRIBE: a packet identifier, then filters up to the body's end. The walk takes any reader of a
+-- filter: request C-22 has its own.
 -- Assumes nothing.
 use mathlib.Core.Bool.{Bool, true, cond, _&&_}
 use mathlib.Core.List.{List, [], _∷_}

@@ -81,8 +81,8 @@ messagesAt s place «now_us» ok = messagesOf (drop place s) place «now_us» ok
 abbrev pub pieceRefusal : Piece → ℕ
 pieceRefusal p = cond (p .fine) (cond (isLong p) 33 0) 32
 
--- the message at a step. That the packet is not refused is not tested again: where it is not, and the step is one of its own, this is one of its messages (Steps.antt); else it is some message that lies
--- within the packet, or none
+-- the message at a step. That the packet is not refused is not tested again: where it is not, and the step is one of its own, this is one of its messages (Steps.antt); else it is some message that
+-- lies within the packet, or none
 unfoldable pub messageFrom : List ℕ → ℕ → ℕ → Bool → Piece → PacketMessage
 messageFrom s place «now_us» ok p =
     cond (eqb (pieceRefusal p) 0) (sentFrom (typeOf s) (lengthAt s 1 .value) (place + bodyFrom s) «now_us» ok p) (noMessage (pieceRefusal p))

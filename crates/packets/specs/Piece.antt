@@ -1,5 +1,5 @@
--- What of a packet's body becomes one message: where its topic stands in the body, its QoS, where its payload begins, and where the next piece does. A CONNECT's client id and a filter are topics here,
--- as in request C-11. Whatever becomes a topic has the same two tests.
+-- What of a packet's body becomes one message: where its topic stands in the body, its QoS, where its payload begins, and where the next piece does. A CONNECT's client id and a filter are topics
+-- here, as in request C-11. Whatever becomes a topic has the same two tests.
 -- Assumes nothing.
 use mathlib.Core.Bool.{Bool, true, false, cond, _&&_}
 use mathlib.Core.List.{List}

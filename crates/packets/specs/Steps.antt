@@ -1,5 +1,5 @@
--- What is claimed of a packet's messages: whoever asks `read_packet` and then `message_at`, so often as it says, from the first step on and each time at the step that the call before handed back, gets
--- the messages of the packet, all of them and in their order.
+-- What is claimed of a packet's messages: whoever asks `read_packet` and then `message_at`, so often as it says, from the first step on and each time at the step that the call before handed back,
+-- gets the messages of the packet, all of them and in their order.
 -- Assumes nothing.
 use mathlib.Core.Bool.{Bool}
 use mathlib.Core.List.{List, [], _∷_}

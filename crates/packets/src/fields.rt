@@ -1,5 +1,5 @@
-// The fields of a packet's body, one after the other (MQTT 3.1.1, section 1.5). One that does not fit, or is no string where a string must stand, is broken, and so is every field behind it: a chain of
-// fields is asked once, at its end.
+// The fields of a packet's body, one after the other (MQTT 3.1.1, section 1.5). One that does not fit, or is no string where a string must stand, is broken, and so is every field behind it: a
+// chain of fields is asked once, at its end.
 use slices::bytes::has_byte;
 use topics::utf8::is_utf8;
 ghost use mathlib.Core.Path.{_≡_};

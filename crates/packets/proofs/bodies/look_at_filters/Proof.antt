@@ -1,19 +1,15 @@
+-- `packets::bodies::look_at_filters` meets its contract. Assumes nothing.
 use borrow.Author.Needs.{needs}
-use Prim.Native.Nat.{_+_, _-_, _≤_, _<_}
-use mathlib.Core.Path.{_≡_, sym, _∙_}
+use Prim.Native.Nat.{_+_, _-_, _≤_}
+use mathlib.Core.Path.{_≡_, _∙_}
 use native.Mathlib.Omega.{arith}
 use lib.ListN.{length}
 use borrow.Author.Tests.{not-true, not-false}
-use Rattle.packets.specs.Bodies.{lookedAt, lookedFirst}
-use Rattle.packets.specs.Filters.{filterAt, filtersOf, walk}
+use Rattle.packets.specs.Bodies.{lookedAt}
+use Rattle.packets.specs.Filters.{filtersOf}
 use Rattle.packets.proofs.bodies.LookLaws.{lookedOver, filtersLeft, look-count, look-first, look-end, filters-turn, filters-last, filters-end}
 use Rattle.packets.proofs.bodies.look_at_filters.Statement.{statement}
 use Rattle.packets.proofs.bodies.look_at_filters.Tie as tie
-use Rattle.packets.proofs.bodies.look_at_filters.Reads as reads
-use Rattle.packets.proofs.bodies.look_at_filters.Lts as lts
-use Rattle.packets.proofs.bodies.look_first.Reads as look-first-reads
-use Rattle.packets.proofs.bodies.look_on.Reads as look-on-reads
-use Rattle.packets.proofs.filters.filter_at.Reads as filter-at-reads
 
 abbrev Inv-loop : tie.InvT-loop
 Inv-loop subscribe b seen₀ at₀ seen at = (lookedOver b seen (filtersLeft subscribe b at) ≡ lookedAt b (filtersOf subscribe b)) × (seen .count + 2 ≤ at)
@@ -21,35 +17,44 @@ Inv-loop subscribe b seen₀ at₀ seen at = (lookedOver b seen (filtersLeft sub
 abbrev μ-loop : tie.MeasureT-loop
 μ-loop subscribe b seen₀ at₀ seen at = length b - at
 
--- src/bodies.rt:132:9
 look-first-requires : tie.Need-look-first-requires Inv-loop μ-loop
 look-first-requires c κs = search needs
 
--- src/bodies.rt:134:5
 loop-holds : tie.Need-loop-holds Inv-loop μ-loop
 loop-holds c = (rw (c .look-first .ensures) (look-first _ _), rw (c .look-first .ensures) (omega arith))
 
--- src/bodies.rt:135:13
 filter-at-requires : tie.Need-filter-at-requires Inv-loop μ-loop
 filter-at-requires c κs = search needs
 
--- src/bodies.rt:136:9
 look-on-requires : tie.Need-look-on-requires Inv-loop μ-loop
 look-on-requires c κs = (c .filter-at .ensures .1 .lies, omega (arith, c .before .before .loop .inv .1, c .before .loop-test .taken))
 
--- src/bodies.rt:138:13
 returns : tie.Need-returns Inv-loop μ-loop
-returns c = look-end _ _ ∙ filters-last _ _ (c .before .before .before .before .loop-test .taken) (c .before .before .before .filter-at .ensures .0) _ (c .before .before .look-on .ensures) (not-true _ (c .if1 .taken)) ∙ c .before .before .before .before .before .loop .inv .0
+returns c =
+    let loop = c .before .before .before .before .before .loop in
+    let loop-test = c .before .before .before .before .loop-test in
+    let filter-at = c .before .before .before .filter-at in
+    let look-on = c .before .before .look-on in
+    look-end _ _ ∙ filters-last _ _ (loop-test .taken) (filter-at .ensures .0) _ (look-on .ensures) (not-true _ (c .if1 .taken)) ∙ loop .inv .0
 
--- src/bodies.rt:134:5
 loop-less : tie.Need-loop-less Inv-loop μ-loop
-loop-less c = let h = c .before .before .before .filter-at .ensures .1 .further (not-false _ (c .if1 .left)) in omega (arith, c .before .before .before .before .loop-test .taken)
+loop-less c =
+    let loop-test = c .before .before .before .before .loop-test in
+    let filter-at = c .before .before .before .filter-at in
+    let h = filter-at .ensures .1 .further (not-false _ (c .if1 .left)) in
+    omega (arith, loop-test .taken)
 
--- src/bodies.rt:134:5
 loop-again : tie.Need-loop-again Inv-loop μ-loop
-loop-again c = (filters-turn _ _ (c .before .before .before .before .loop-test .taken) (c .before .before .before .filter-at .ensures .0) _ (c .before .before .look-on .ensures) (not-false _ (c .if1 .left)) ∙ c .before .before .before .before .before .loop .inv .0, let h = c .before .before .before .filter-at .ensures .1 .further (not-false _ (c .if1 .left)) in let k = look-count _ _ _ (c .before .before .look-on .ensures) in omega (arith, c .before .before .before .before .before .loop .inv .1))
+loop-again c =
+    let loop = c .before .before .before .before .before .loop in
+    let loop-test = c .before .before .before .before .loop-test in
+    let filter-at = c .before .before .before .filter-at in
+    let look-on = c .before .before .look-on in (
+      filters-turn _ _ (loop-test .taken) (filter-at .ensures .0) _ (look-on .ensures) (not-false _ (c .if1 .left)) ∙ loop .inv .0,
+      let h = filter-at .ensures .1 .further (not-false
+          _ (c .if1 .left)) in let k = look-count _ _ _ (look-on .ensures) in omega (arith, loop .inv .1),
+    )
 
--- src/bodies.rt:129:1
 returns-2 : tie.Need-returns-2 Inv-loop μ-loop
 returns-2 c = filters-end _ _ _ (c .loop-test .left) ∙ c .before .loop .inv .0
 

@@ -1,26 +1,21 @@
+-- `packets::connect::will_flags` meets its contract. Assumes nothing.
 use borrow.Author.Tests.{eq-eqb, ne-eqb}
 use Rattle.packets.specs.Connect.{willFlags}
 use Rattle.packets.proofs.connect.will_flags.Statement.{statement}
 use Rattle.packets.proofs.connect.will_flags.Tie as tie
-use Rattle.packets.proofs.connect.will_flags.Reads as reads
-use Rattle.packets.proofs.connect.will_flags.Lts as lts
 
--- src/connect.rt:36:9
 returns : tie.Need-returns
 unfolding willFlags
 returns c = rw (ne-eqb _ 0 (c .if1 .taken))
 
--- src/connect.rt:39:9
 returns-2 : tie.Need-returns-2
 unfolding willFlags
 returns-2 c = rw (eq-eqb _ 0 (c .before .if1 .left), eq-eqb _ 3 (c .if2 .taken))
 
--- src/connect.rt:32:1
 returns-3 : tie.Need-returns-3
 unfolding willFlags
 returns-3 c = rw (eq-eqb _ 0 (c .before .before .if1 .left), ne-eqb _ 3 (c .before .if2 .left), eq-eqb _ 1 (c .if3 .taken))
 
--- src/connect.rt:32:1
 returns-4 : tie.Need-returns-4
 unfolding willFlags
 returns-4 c = rw (eq-eqb _ 0 (c .before .before .if1 .left), ne-eqb _ 3 (c .before .if2 .left), ne-eqb _ 1 (c .if3 .left))

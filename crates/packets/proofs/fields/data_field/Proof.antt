@@ -1,3 +1,4 @@
+-- `packets::fields::data_field` meets its contract. Assumes nothing.
 use mathlib.Core.Path.{sym, _∙_}
 use native.Mathlib.Omega.{arith}
 use borrow.Author.Tests.{not-true, not-false}
@@ -6,37 +7,34 @@ use Rattle.packets.proofs.fields.FieldLaws.{room-is, broken-inside}
 use borrow.Author.Needs.{needs}
 use Rattle.packets.proofs.fields.data_field.Statement.{statement}
 use Rattle.packets.proofs.fields.data_field.Tie as tie
-use Rattle.packets.proofs.fields.data_field.Reads as reads
-use Rattle.packets.proofs.fields.data_field.Lts as lts
-use Rattle.packets.proofs.fields.broken_field.Reads as broken-field-reads
-use Rattle.packets.proofs.fields.number_field.Reads as number-field-reads
-use Rattle.packets.proofs.fields.room_behind.Reads as room-behind-reads
 
--- src/fields.rt:104:9
 number-field-requires : tie.Need-number-field-requires
 number-field-requires c κs = search needs
 
--- src/fields.rt:106:9
 room-behind-requires : tie.Need-room-behind-requires
 room-behind-requires c κs = search needs
 
--- src/fields.rt:107:9
 broken-field-requires : tie.Need-broken-field-requires
 broken-field-requires c κs = search needs
 
--- src/fields.rt:107:9
 returns : tie.Need-returns
 unfolding dataField dataOf
-returns c = let e = sym (c .before .before .room-behind .ensures) ∙ not-true _ (c .before .if1 .taken) in (rw (← c .before .before .before .number-field .ensures, e) (c .broken-field .ensures), rw (c .broken-field .ensures) (broken-inside _))
+returns c =
+    let number-field = c .before .before .before .number-field in
+    let room-behind = c .before .before .room-behind in
+    let e = sym (room-behind .ensures) ∙ not-true _ (c .before .if1 .taken) in
+    (rw (← number-field .ensures, e) (c .broken-field .ensures), rw (c .broken-field .ensures) (broken-inside _))
 
--- src/fields.rt:113:15
 add-t7 : tie.Need-add-t7
 add-t7 c = let h = room-is _ _ _ (sym (c .before .before .room-behind .ensures) ∙ not-false _ (c .before .if1 .left)) in omega arith
 
--- src/fields.rt:100:1
 returns-2 : tie.Need-returns-2
 unfolding dataField dataOf
-returns-2 c = let e = sym (c .before .before .room-behind .ensures) ∙ not-false _ (c .before .if1 .left) in (rw (← c .before .before .before .number-field .ensures, e), record { ordered = omega arith; ended = room-is _ _ _ e .1 })
+returns-2 c =
+    let number-field = c .before .before .before .number-field in
+    let room-behind = c .before .before .room-behind in
+    let e = sym (room-behind .ensures) ∙ not-false _ (c .before .if1 .left) in
+    (rw (← number-field .ensures, e), record { ordered = omega arith; ended = room-is _ _ _ e .1 })
 
 pub data-field-spec : {M : Type 1} → statement M
 data-field-spec =

@@ -1,19 +1,14 @@
+-- `packets::fields::data_if` meets its contract. Assumes nothing.
 use borrow.Author.Needs.{needs}
 use Rattle.packets.proofs.fields.data_if.Statement.{statement}
 use Rattle.packets.proofs.fields.data_if.Tie as tie
-use Rattle.packets.proofs.fields.data_if.Reads as reads
-use Rattle.packets.proofs.fields.data_if.Lts as lts
-use Rattle.packets.proofs.fields.data_field.Reads as data-field-reads
 
--- src/fields.rt:155:9
 data-field-requires : tie.Need-data-field-requires
 data-field-requires c κs = search needs
 
--- src/fields.rt:155:9
 returns : tie.Need-returns
 returns c = rw (c .before .if1 .taken) (c .data-field .ensures .0)
 
--- src/fields.rt:151:1
 returns-2 : tie.Need-returns-2
 returns-2 c = rw (c .if1 .left)
 

@@ -1,19 +1,14 @@
+-- `packets::fields::number_if` meets its contract. Assumes nothing.
 use borrow.Author.Needs.{needs}
 use Rattle.packets.proofs.fields.number_if.Statement.{statement}
 use Rattle.packets.proofs.fields.number_if.Tie as tie
-use Rattle.packets.proofs.fields.number_if.Reads as reads
-use Rattle.packets.proofs.fields.number_if.Lts as lts
-use Rattle.packets.proofs.fields.number_field.Reads as number-field-reads
 
--- src/fields.rt:145:9
 number-field-requires : tie.Need-number-field-requires
 number-field-requires c κs = search needs
 
--- src/fields.rt:145:9
 returns : tie.Need-returns
 returns c = rw (c .before .if1 .taken) (c .number-field .ensures)
 
--- src/fields.rt:141:1
 returns-2 : tie.Need-returns-2
 returns-2 c = rw (c .if1 .left)
 

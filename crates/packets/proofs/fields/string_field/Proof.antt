@@ -1,3 +1,4 @@
+-- `packets::fields::string_field` meets its contract. Assumes nothing.
 use mathlib.Core.Path.{sym, _∙_}
 use native.Mathlib.Omega.{arith}
 use borrow.Author.Tests.{not-true, not-false}
@@ -5,42 +6,33 @@ use Rattle.packets.specs.Fields.{stringOf, stringField}
 use borrow.Author.Needs.{needs}
 use Rattle.packets.proofs.fields.string_field.Statement.{statement}
 use Rattle.packets.proofs.fields.string_field.Tie as tie
-use Rattle.packets.proofs.fields.string_field.Reads as reads
-use Rattle.packets.proofs.fields.string_field.Lts as lts
-use Rattle.packets.proofs.fields.broken_field.Reads as broken-field-reads
-use Rattle.packets.proofs.fields.data_field.Reads as data-field-reads
-use Rattle.packets.proofs.fields.is_string.Reads as is-string-reads
 
--- src/fields.rt:121:9
 data-field-requires : tie.Need-data-field-requires
 data-field-requires c κs = search needs
 
--- src/fields.rt:124:19
 sub-is-string : tie.Need-sub-is-string
 sub-is-string c = c .data-field .ensures .1 .ordered
 
--- src/fields.rt:124:19
 part-is-string-start : tie.Need-part-is-string-start
 part-is-string-start c = let i = c .data-field .ensures .1 in omega (arith, i .ordered)
 
--- src/fields.rt:124:19
 part-is-string-end : tie.Need-part-is-string-end
 part-is-string-end c = let i = c .data-field .ensures .1 in omega (arith, i .ordered, i .ended)
 
--- src/fields.rt:124:9
 is-string-requires : tie.Need-is-string-requires
 is-string-requires c κs = search needs
 
--- src/fields.rt:125:9
 broken-field-requires : tie.Need-broken-field-requires
 broken-field-requires c κs = search needs
 
--- src/fields.rt:125:9
 returns : tie.Need-returns
 unfolding stringField stringOf
-returns c = let e = sym (c .before .before .is-string .ensures) ∙ not-true _ (c .before .if1 .taken) in rw (← c .before .before .before .before .data-field .ensures .0, e) (c .broken-field .ensures)
+returns c =
+    let data-field = c .before .before .before .before .data-field in
+    let is-string = c .before .before .is-string in
+    let e = sym (is-string .ensures) ∙ not-true _ (c .before .if1 .taken) in
+    rw (← data-field .ensures .0, e) (c .broken-field .ensures)
 
--- src/fields.rt:118:1
 returns-2 : tie.Need-returns-2
 unfolding stringField stringOf
 returns-2 c = let e = sym (c .before .is-string .ensures) ∙ not-false _ (c .if1 .left) in rw (← c .before .before .before .data-field .ensures .0, e)

@@ -1,15 +1,12 @@
+-- `packets::filters::request_fine` meets its contract. Assumes nothing.
 use Rattle.packets.specs.Filters.{requestFine}
 use Rattle.packets.proofs.filters.request_fine.Statement.{statement}
 use Rattle.packets.proofs.filters.request_fine.Tie as tie
-use Rattle.packets.proofs.filters.request_fine.Reads as reads
-use Rattle.packets.proofs.filters.request_fine.Lts as lts
 
--- src/filters.rt:28:1
 returns : tie.Need-returns
 unfolding requestFine
 returns c = rw (c .before .if1 .taken)
 
--- src/filters.rt:28:1
 returns-2 : tie.Need-returns-2
 unfolding requestFine
 returns-2 c = rw (c .if1 .left)

@@ -1,40 +1,30 @@
-use mathlib.Core.Path.{sym, _∙_}
+-- `packets::messages::message_at` meets its contract. Assumes nothing.
+use mathlib.Core.Path.{_∙_}
 use native.Mathlib.Omega.{arith}
 use Rattle.laws.proofs.Lists.{tail-whole}
 use Rattle.packets.proofs.messages.MessageLaws.{message-none}
 use borrow.Author.Needs.{needs}
 use Rattle.packets.proofs.messages.message_at.Statement.{statement}
 use Rattle.packets.proofs.messages.message_at.Tie as tie
-use Rattle.packets.proofs.messages.message_at.Reads as reads
-use Rattle.packets.proofs.messages.message_at.Lts as lts
-use Rattle.packets.proofs.messages.message_for.Reads as message-for-reads
-use Rattle.packets.proofs.messages.no_message.Reads as no-message-reads
 
--- src/messages.rt:118:9
 no-message-requires : tie.Need-no-message-requires
 no-message-requires c κs = search needs
 
--- src/messages.rt:118:9
 returns : tie.Need-returns
 returns c = c .no-message .ensures ∙ message-none _ _ _ _ (c .before .if1 .taken)
 
--- src/messages.rt:120:17
 sub-message-for : tie.Need-sub-message-for
 sub-message-for c = omega (arith, c .if1 .left)
 
--- src/messages.rt:120:17
 part-message-for-start : tie.Need-part-message-for-start
 part-message-for-start c = omega (arith, c .if1 .left)
 
--- src/messages.rt:120:17
 part-message-for-end : tie.Need-part-message-for-end
 part-message-for-end c = omega (arith, c .if1 .left)
 
--- src/messages.rt:120:5
 message-for-requires : tie.Need-message-for-requires
 message-for-requires c κs = search needs
 
--- src/messages.rt:114:1
 returns-2 : tie.Need-returns-2
 returns-2 c = rw (tail-whole (c .before .before .before .before .args .bytes .now) (c .before .before .before .before .args .place)) at (c .message-for .ensures)
 

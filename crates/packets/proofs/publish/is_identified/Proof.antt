@@ -1,20 +1,16 @@
+-- `packets::publish::is_identified` meets its contract. Assumes nothing.
 use Rattle.packets.specs.Publish.{identified}
 use Rattle.packets.proofs.publish.is_identified.Statement.{statement}
 use Rattle.packets.proofs.publish.is_identified.Tie as tie
-use Rattle.packets.proofs.publish.is_identified.Reads as reads
-use Rattle.packets.proofs.publish.is_identified.Lts as lts
 
--- src/publish.rt:20:1
 returns : tie.Need-returns
 unfolding identified
 returns c = rw (c .before .if1 .taken, c .if2 .taken)
 
--- src/publish.rt:20:1
 returns-2 : tie.Need-returns-2
 unfolding identified
 returns-2 c = rw (c .before .before .if1 .taken, c .before .if2 .left)
 
--- src/publish.rt:20:1
 returns-3 : tie.Need-returns-3
 unfolding identified
 returns-3 c = rw (c .if1 .left)

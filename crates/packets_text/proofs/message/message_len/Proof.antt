@@ -38,87 +38,66 @@ of-type c = c .before .before
 typed : (c : tie.After-type-number) → MessageTyped (c .before .before .before .args .msg)
 typed c = record { time = search needs; size = search needs }
 
--- src/message.rt:60:16
 type-number-requires : tie.Need-type-number-requires
 type-number-requires c κs = search needs
 
--- src/message.rt:60:16
 cast-kind : tie.Need-cast-kind
 cast-kind c = search needs
 
--- src/message.rt:61:15
 qos-number-requires : tie.Need-qos-number-requires
 qos-number-requires c κs = search needs
 
--- src/message.rt:61:15
 cast-qos : tie.Need-cast-qos
 cast-qos c = search needs
 
--- src/message.rt:62:9
 clock-number-requires : tie.Need-clock-number-requires
 clock-number-requires c κs = search needs
 
--- src/message.rt:63:29
 slice-aggregate-number-line-len : tie.Need-slice-aggregate-number-line-len
 slice-aggregate-number-line-len c = search needs
 
--- src/message.rt:63:9
 number-line-len-requires : tie.Need-number-line-len-requires
 number-line-len-requires c κs = search needs
 
--- src/message.rt:64:27
 slice-aggregate-word-line-len : tie.Need-slice-aggregate-word-line-len
 slice-aggregate-word-line-len c = search needs
 
--- src/message.rt:64:38
 slice-aggregate-word-line-len-2 : tie.Need-slice-aggregate-word-line-len-2
 slice-aggregate-word-line-len-2 c = search needs
 
--- src/message.rt:64:9
 word-line-len-requires : tie.Need-word-line-len-requires
 word-line-len-requires c κs = search needs
 
--- src/message.rt:65:29
 slice-aggregate-number-line-len-2 : tie.Need-slice-aggregate-number-line-len-2
 slice-aggregate-number-line-len-2 c = search needs
 
--- src/message.rt:65:9
 number-line-len-requires-2 : tie.Need-number-line-len-requires-2
 number-line-len-requires-2 c κs = search needs
 
--- src/message.rt:66:29
 slice-aggregate-number-line-len-3 : tie.Need-slice-aggregate-number-line-len-3
 slice-aggregate-number-line-len-3 c = search needs
 
--- src/message.rt:66:9
 number-line-len-requires-3 : tie.Need-number-line-len-requires-3
 number-line-len-requires-3 c κs = search needs
 
--- src/message.rt:67:26
 slice-aggregate-hex-line-len : tie.Need-slice-aggregate-hex-line-len
 slice-aggregate-hex-line-len c = search needs
 
--- src/message.rt:67:9
 hex-line-len-requires : tie.Need-hex-line-len-requires
 hex-line-len-requires c κs = search needs
 
--- src/message.rt:68:29
 slice-aggregate-number-line-len-4 : tie.Need-slice-aggregate-number-line-len-4
 slice-aggregate-number-line-len-4 c = search needs
 
--- src/message.rt:68:39
 cast-number-line-len : tie.Need-cast-number-line-len
 cast-number-line-len c = search needs
 
--- src/message.rt:68:9
 number-line-len-requires-4 : tie.Need-number-line-len-requires-4
 number-line-len-requires-4 c κs = search needs
 
--- src/message.rt:69:26
 slice-aggregate-hex-line-len-2 : tie.Need-slice-aggregate-hex-line-len-2
 slice-aggregate-hex-line-len-2 c = search needs
 
--- src/message.rt:69:9
 hex-line-len-requires-2 : tie.Need-hex-line-len-requires-2
 hex-line-len-requires-2 c κs = search needs
 
@@ -147,31 +126,24 @@ sum c =
     (o .before .qos-number .ensures .0) (first .number-line-len .ensures) (second .word-line-len .ensures) (third .number-line-len2 .ensures)
     (fourth .number-line-len3 .ensures) (fifth .hex-line-len .ensures) (sixth .number-line-len4 .ensures) (c .hex-line-len2 .ensures)
 
--- src/message.rt:70:5
 add-result : tie.Need-add-result
 add-result c = omega (arith, sum c)
 
--- src/message.rt:70:5
 add-result-2 : tie.Need-add-result-2
 add-result-2 c = omega (arith, sum c)
 
--- src/message.rt:70:5
 add-result-3 : tie.Need-add-result-3
 add-result-3 c = omega (arith, sum c)
 
--- src/message.rt:70:5
 add-result-4 : tie.Need-add-result-4
 add-result-4 c = omega (arith, sum c)
 
--- src/message.rt:70:5
 add-result-5 : tie.Need-add-result-5
 add-result-5 c = omega (arith, sum c)
 
--- src/message.rt:70:5
 add-result-6 : tie.Need-add-result-6
 add-result-6 c = omega (arith, sum c)
 
--- src/message.rt:52:1
 returns : tie.Need-returns
 returns c = sum c
 
