@@ -82,11 +82,12 @@ loop-less c =
     omega (arith, read-packet .read-packet .ensures .1 .some (if1 .if1 .left), read-packet .read-packet .ensures .1 .inside (if1 .if1 .left), loop-test .loop-test .taken)
 
 loop-again : tie.Need-loop-again Inv-loop μ-loop
-loop-again c =
-    (search needs,
-    let more = c .before .before .before .before .before .before .before .before .before .before .before in
-    let packet = more .before .before .read-packet .ensures .1 in
-    omega (arith, packet .some (more .if1 .left), packet .inside (more .if1 .left)))
+loop-again c = (
+  search needs,
+  let more = c .before .before .before .before .before .before .before .before .before .before .before in
+      let packet = more .before .before .read-packet .ensures .1 in
+      omega (arith, packet .some (more .if1 .left), packet .inside (more .if1 .left)),
+)
 
 same-length-4 : tie.Need-same-length-4 Inv-loop μ-loop
 same-length-4 c = c .before .loop .inv .0
