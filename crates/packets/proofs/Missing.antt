@@ -1,20 +1,19 @@
 -- 31 exactly when bytes are missing: bytes that follow move no byte before them, so a header that is there, and a body that is, stay as they are. Assumes nothing.
-use mathlib.Core.Bool.{Bool, true, false, cond}
+use mathlib.Core.Bool.{Bool, true, false}
 use mathlib.Core.List.{List, _++_}
 use mathlib.Core.Path.{_≡_, refl, sym, _∙_, ap}
 use Prim.Native.Nat.{ℕ, _+_, _-_, _≤_, _<_}
 use native.Mathlib.Omega.{arith}
-use lib.Dec.{eqb, ltb}
-use lib.ListN.{length, getD, take, drop, length-append, length-drop, drop-of-length-le, List·getD-append}
+use lib.Dec.{ltb}
+use lib.ListN.{length, take, drop, length-append, length-drop, List·getD-append}
 use lib.Seq.{take-append-le, drop-append-le}
-use borrow.Author.Tests.{eqb-true, ltb-false, ltb-true}
-use Rattle.laws.proofs.Cases.{by, by-le, choose, clash}
+use borrow.Author.Tests.{ltb-false}
+use Rattle.laws.proofs.Cases.{by, by-le, choose}
 use Rattle.lines.specs.Span.{part}
-use Rattle.packets.specs.Bodies.{pieceAt, piecesOf, firstStep}
-use Rattle.packets.specs.Header.{byteAt, sevenAt, lengthIs, lengthOver, lengthAt, typeOf, flagsOf, bodyFrom, sizeOf, bodyIn, headerRefusal}
+use Rattle.packets.specs.Header.{byteAt, lengthAt, typeOf, flagsOf, bodyFrom, sizeOf, bodyIn, headerRefusal}
 use Rattle.packets.specs.Messages.{messageFrom, messageFor, messageAt}
 use Rattle.packets.specs.Missing.{Missing}
-use Rattle.packets.specs.Packet.{firstOf, bodyRefusal, packetRefusal, refusedPacket, packetOf, packetAt}
+use Rattle.packets.specs.Packet.{packetRefusal, packetOf, packetAt}
 use Rattle.packets.specs.declared.header.Length.{Length}
 use Rattle.packets.specs.declared.packet.Packet.{Packet}
 use Rattle.packets.proofs.header.LengthLaws.{there, over-is, short-is, whole-is, length-small}

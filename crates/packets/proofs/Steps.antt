@@ -1,27 +1,26 @@
 -- Stepping through a packet that is not refused gives its messages: of a list, each step is the place of the next filter, and every filter is good and short; any other packet has one piece.
 -- Assumes nothing.
-use mathlib.Core.Bool.{Bool, true, false, cond, _&&_, _||_}
+use mathlib.Core.Bool.{Bool, true, false, _&&_}
 use mathlib.Core.List.{List, [], _∷_, map}
 use mathlib.Core.Path.{_≡_, refl, sym, _∙_, ap}
 use Prim.Native.Nat.{ℕ, zero, suc, _+_, _-_, _≤_, _<_}
 use native.Mathlib.Omega.{arith}
 use lib.Dec.{eqb, ltb, leb}
 use lib.ListN.{length, drop, length-map, length-take}
-use borrow.Author.Tests.{eqb-true, eqb-false, eq-eqb, ltb-true, ltb-false}
+use borrow.Author.Tests.{eqb-true, ltb-true, ltb-false}
 use Rattle.laws.specs.Lists.{every, some}
-use Rattle.laws.proofs.Cases.{by, by-le, choose, clash}
+use Rattle.laws.proofs.Cases.{by, choose, clash}
 use Rattle.laws.proofs.Tests.{both, either, neither}
 use Rattle.packets.specs.Bodies.{isList, bodyBuilt, pieceAt, firstStep, piecesOf}
-use Rattle.packets.specs.Fields.{isString, begin, numberField}
+use Rattle.packets.specs.Fields.{begin, numberField}
 use Rattle.packets.specs.Filters.{listBuilt, filterAt, filtersOf, walk}
 use Rattle.packets.specs.Header.{lengthAt, typeOf, flagsOf, bodyFrom, sizeOf, bodyIn, headerRefusal}
-use Rattle.packets.specs.Messages.{sentFrom, pieceRefusal, messageFrom, messageFor, messageAt, messagesOf, messagesAt}
-use Rattle.packets.specs.Packet.{firstOf, bodyRefusal, packetRefusal, refusedPacket, packetOf, packetAt}
+use Rattle.packets.specs.Messages.{sentFrom, messageFrom, messageFor, messageAt, messagesOf, messagesAt}
+use Rattle.packets.specs.Packet.{packetAt}
 use Rattle.packets.specs.Piece.{goodPiece, isLong}
 use Rattle.packets.specs.Publish.{identified}
 use Rattle.packets.specs.Steps.{stepped, Steps}
 use Rattle.packets.specs.declared.messages.PacketMessage.{PacketMessage}
-use Rattle.packets.specs.declared.packet.Packet.{Packet}
 use Rattle.packets.specs.declared.piece.Piece.{Piece}
 use Rattle.packets.proofs.filters.WalkLaws.{filter-further, left-turn, left-last}
 use Rattle.packets.proofs.header.LengthLaws.{length-small}

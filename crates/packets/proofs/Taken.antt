@@ -1,26 +1,23 @@
 -- What `message_at` hands out lies within its packet, and `inspect` takes it: a piece lies in the body, the body in the bytes, and the message says how long its parts are. Assumes nothing.
-use mathlib.Core.Bool.{Bool, true, false, cond}
+use mathlib.Core.Bool.{Bool}
 use mathlib.Core.List.{List}
-use mathlib.Core.Path.{_≡_, refl, sym, _∙_, ap}
-use Prim.Native.Nat.{ℕ, _+_, _-_, _≤_, _<_, min}
+use mathlib.Core.Path.{_≡_, refl, _∙_}
+use Prim.Native.Nat.{ℕ, _+_, _-_, _≤_, min}
 use native.Mathlib.Omega.{arith}
-use lib.Dec.{eqb, ltb}
-use lib.ListN.{length, take, drop, length-take, length-drop}
+use lib.Dec.{eqb}
+use lib.ListN.{length, drop, length-drop}
 use lib.Seq.{length-take-le}
 use borrow.Author.Tests.{eqb-true, eqb-false, le-ltb, ltb-false}
-use Rattle.laws.proofs.Cases.{by, by-le, choose, clash}
+use Rattle.laws.proofs.Cases.{choose}
 use Rattle.lines.specs.Span.{part}
 use Rattle.monitor.specs.Inspect.{inspectRefusal}
 use Rattle.monitor.specs.Message.{usedTopic, usedPayload}
 use Rattle.monitor.specs.State.{wellFormed}
 use Rattle.monitor.specs.declared.state.MqttMonitor.{MqttMonitor}
-use Rattle.packets.specs.Bodies.{isList, pieceAt}
-use Rattle.packets.specs.Connect.{connectPiece}
+use Rattle.packets.specs.Bodies.{pieceAt}
 use Rattle.packets.specs.Header.{lengthAt, typeOf, flagsOf, bodyFrom, sizeOf, bodyIn, headerRefusal}
-use Rattle.packets.specs.Messages.{sentFrom, noMessage, pieceRefusal, messageFrom, messageFor, messageAt}
-use Rattle.packets.specs.Piece.{PieceIn, plainPiece, isLong}
-use Rattle.packets.specs.Publish.{publishPiece}
-use Rattle.packets.specs.Filters.{filterAt}
+use Rattle.packets.specs.Messages.{sentFrom, pieceRefusal, messageFrom, messageFor, messageAt}
+use Rattle.packets.specs.Piece.{PieceIn, isLong}
 use Rattle.packets.specs.Taken.{topicBytes, payloadBytes, Within, Taken}
 use Rattle.packets.specs.declared.messages.PacketMessage.{PacketMessage}
 use Rattle.packets.specs.declared.piece.Piece.{Piece}

@@ -1,7 +1,7 @@
 -- MQTT 3.1.1, section 3.1: the body of a CONNECT, a check a line. Request C-22 has another level, and a password may stand alone there; the other checks are the same.
 -- Assumes nothing.
 use mathlib.Core.Bool.{Bool, cond, not, _&&_, _||_}
-use mathlib.Core.List.{List, [], _∷_}
+use mathlib.Core.List.{List, _∷_}
 use Prim.Native.Nat.{ℕ, _/_, _%_}
 use lib.Dec.{eqb, ltb, leb}
 use lib.ListN.{length, getD}

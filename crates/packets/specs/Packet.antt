@@ -1,7 +1,7 @@
 -- Request C-11: what refuses the packet at a place of some bytes, and what a caller needs of one that is not refused. The numbers come in the request's order: 32 for a length field with a fourth
 -- continuation bit, 31 where bytes are missing, 32 for any other breach, 33 for a topic, filter or client id over 128 bytes.
 -- Assumes nothing.
-use mathlib.Core.Bool.{Bool, cond, _&&_}
+use mathlib.Core.Bool.{cond, _&&_}
 use mathlib.Core.List.{List}
 use mathlib.Core.Path.{_≡_}
 use Prim.Native.Nat.{ℕ, _+_, _≤_}

@@ -1,9 +1,8 @@
 -- What of a packet's body becomes one message: where its topic stands in the body, its QoS, where its payload begins, and where the next piece does. A CONNECT's client id and a filter are topics
 -- here, as in request C-11. Whatever becomes a topic has the same two tests.
 -- Assumes nothing.
-use mathlib.Core.Bool.{Bool, true, false, cond, _&&_}
+use mathlib.Core.Bool.{Bool, true, false, _&&_}
 use mathlib.Core.List.{List}
-use mathlib.Core.Path.{_≡_}
 use Prim.Native.Nat.{ℕ, _-_, _≤_}
 use lib.Dec.{ltb}
 use lib.ListN.{length}

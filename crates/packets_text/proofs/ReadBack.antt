@@ -1,12 +1,12 @@
 -- The trace's reader reads back what is written: line by line, each field of it reads what its writer wrote; and so message by message. Assumes nothing.
-use mathlib.Core.Bool.{Bool, true, false, cond}
-use mathlib.Core.List.{List, [], _∷_, _++_, map}
-use mathlib.Core.Path.{_≡_, refl, sym, ap, _∙_}
+use mathlib.Core.Bool.{Bool, true, false}
+use mathlib.Core.List.{List, _++_, map}
+use mathlib.Core.Path.{_≡_, refl, _∙_}
 use Prim.Native.Nat.{ℕ, zero, suc, _+_, _-_, _*_, _≤_, _<_}
 use native.Mathlib.Numerals.{sub-one}
 use native.Mathlib.Omega.{arith}
-use lib.Dec.{eqb, leb}
-use lib.ListN.{length, getD, take, drop, length-take, List·getD-eq-default}
+use lib.Dec.{eqb}
+use lib.ListN.{length, drop, length-take, List·getD-eq-default}
 use lib.Seq.{getD-take, getD-drop}
 use borrow.Author.Tests.{eqb-true}
 use Rattle.laws.proofs.Cases.{by-le}
@@ -23,18 +23,14 @@ use Rattle.forms.proofs.FieldRound.{number-there, word-there, hex-there, hex-by
 use Rattle.forms.proofs.StandsLaws.{stands-first, stands-second}
 use Rattle.tables.specs.Numbers.{qosNumber, qosAt}
 use Rattle.tables.specs.declared.rules.MqttQoS.{MqttQoS}
-use Rattle.tables.specs.declared.rules.MqttQoS.the-variants.{AtMostOnce, AtLeastOnce, ExactlyOnce}
+use Rattle.tables.proofs.rules.NumberLaws.{qos-back}
 use Rattle.monitor.specs.Message.{typeNumber, typeAt}
-use Rattle.monitor.specs.Runs.{Call}
 use Rattle.monitor.specs.declared.message.MqttMessage.{MqttMessage}
 use Rattle.monitor.specs.declared.message.MqttPacketType.{MqttPacketType}
-use Rattle.monitor.specs.declared.message.MqttPacketType.the-variants.{Connect, ConnAck, Publish, PubAck, PubRec, PubRel, PubComp}
-use Rattle.monitor.specs.declared.message.MqttPacketType.the-variants.{Subscribe, SubAck, Unsubscribe, UnsubAck, PingReq, PingResp, Disconnect, Auth}
-use Rattle.trace.specs.Groups.{message1, message2, message3, message4, message5, message6, message7, messageAt, topicIn, payloadIn}
+use Rattle.trace.specs.Groups.{message1, message2, message3, message4, message5, message6, message7, messageAt}
 use Rattle.trace.specs.declared.groups.MessageLines.{MessageLines}
 use Rattle.trace.proofs.groups.GroupLaws.{message-within, message-further}
 use Rattle.trace.proofs.run.RunLaws.{left-turn}
-use Rattle.packets.specs.Messages.{messagesAt}
 use Rattle.packets.specs.Messages as packet
 use Rattle.packets.specs.Packet.{packetAt}
 use Rattle.packets.specs.Steps.{stepped}
@@ -43,34 +39,12 @@ use Rattle.packets.specs.declared.messages.PacketMessage.{PacketMessage}
 use Rattle.packets.proofs.Steps.{steps}
 use Rattle.packets.proofs.Taken.{taken}
 use Rattle.packets_text.specs.MessageText.{clockNumber, messageLines, messageText}
-use Rattle.packets_text.specs.PacketText.{textOf, textsOf, packetText}
+use Rattle.packets_text.specs.PacketText.{textOf, textsOf}
 use Rattle.packets_text.specs.ReadBack.{IsBytes, Writable, Reads, callOf, sentAll, readFrom, ReadBack}
-use Rattle.packets_text.proofs.message.TextLaws.{type-small, qos-small, lines-short}
+use Rattle.packets_text.proofs.message.TextLaws.{type-back, lines-short}
 use Rattle.packets_text.proofs.written.WrittenLaws.{left, Good, good-both, first-text, first-good}
 
--- a number names what it is the number of
-type-back : (k : MqttPacketType) → (typeAt (typeNumber k) ≡ k) × (1 ≤ typeNumber k)
-type-back Connect = (refl, omega arith)
-type-back ConnAck = (refl, omega arith)
-type-back Publish = (refl, omega arith)
-type-back PubAck = (refl, omega arith)
-type-back PubRec = (refl, omega arith)
-type-back PubRel = (refl, omega arith)
-type-back PubComp = (refl, omega arith)
-type-back Subscribe = (refl, omega arith)
-type-back SubAck = (refl, omega arith)
-type-back Unsubscribe = (refl, omega arith)
-type-back UnsubAck = (refl, omega arith)
-type-back PingReq = (refl, omega arith)
-type-back PingResp = (refl, omega arith)
-type-back Disconnect = (refl, omega arith)
-type-back Auth = (refl, omega arith)
-
-qos-back : (q : MqttQoS) → qosAt (qosNumber q) ≡ q
-qos-back AtMostOnce = refl
-qos-back AtLeastOnce = refl
-qos-back ExactlyOnce = refl
-
+-- a place in `ok|bad` names the verdict
 clock-back : (ok : Bool) → (eqb (clockNumber ok) 0 ≡ ok) × (clockNumber ok < 2)
 clock-back true = (refl, omega arith)
 clock-back false = (refl, omega arith)
@@ -185,9 +159,9 @@ module _ {s : List ℕ} {at r : ℕ} (msg : MqttMessage) (topic payload : List �
       word-there (bytes "clock=") (bytes "ok|bad") refl refl refl (clockNumber (msg .«timestamp_ok»)) (clock-back (msg .«timestamp_ok») .1)
       (stands-first C (K ++ (Q ++ (N ++ (Z ++ P)))) behind1) in
       let e3 =
-      number-there (bytes "type=") 1 15 refl (typeNumber (msg .«packet_type»)) (type-back (msg .«packet_type») .1) (type-small (msg .«packet_type»))
+      number-there (bytes "type=") 1 15 refl (typeNumber (msg .«packet_type»)) (type-back (msg .«packet_type») .1) (type-back (msg .«packet_type») .2)
       (stands-first K (Q ++ (N ++ (Z ++ P))) behind2) in
-      let e4 = number-there (bytes "qos=") 0 2 refl (qosNumber (msg .qos)) (omega arith) (qos-small (msg .qos)) (stands-first Q (N ++ (Z ++ P)) behind3) in
+      let e4 = number-there (bytes "qos=") 0 2 refl (qosNumber (msg .qos)) (omega arith) (qos-back (msg .qos) .1) (stands-first Q (N ++ (Z ++ P)) behind3) in
       let e5 = hex-there (bytes "topic=") 128 refl topic (w .topicBytes) topic-short topicThere in
       let e6 = number-there (bytes "size=") 0 65535 refl (msg .«payload_len») (omega arith) (w .size) (stands-first Z P behind5) in
       let e7 = hex-there (bytes "payload=") 256 refl payload (w .payloadBytes) payload-short behind6 in
@@ -203,7 +177,7 @@ module _ {s : List ℕ} {at r : ℕ} (msg : MqttMessage) (topic payload : List �
         next = rw read refl;
         msg =
             rw read
-            (message-of (msg .«payload_len») (msg .«timestamp_us») (type-back (msg .«packet_type») .0) (w .topicLong .0) (qos-back (msg .qos)) (w .payloadLong .0)
+            (message-of (msg .«payload_len») (msg .«timestamp_us») (type-back (msg .«packet_type») .0) (w .topicLong .0) (qos-back (msg .qos) .0) (w .payloadLong .0)
             (clock-back (msg .«timestamp_ok») .0));
         topic = rw read (rw e5 at (hex-bytes (bytes "topic=") 128 refl topic (w .topicBytes) topic-short topicThere));
         payload = rw read (rw e7 at (hex-bytes (bytes "payload=") 256 refl payload (w .payloadBytes) payload-short behind6));
@@ -214,7 +188,7 @@ text-short : (msg : MqttMessage) (topic payload : List ℕ) → Writable msg top
 unfolding messageText
 text-short msg topic payload w =
     lines-short (msg .«timestamp_us») (clockNumber (msg .«timestamp_ok»)) (typeNumber (msg .«packet_type»)) (qosNumber (msg .qos)) topic (msg .«payload_len») payload
-    (omega (arith, w .time)) (type-small (msg .«packet_type»)) (qos-small (msg .qos)) (omega (arith, w .topicLong .0, w .topicLong .1)) (omega (arith, w .size))
+    (omega (arith, w .time)) (type-back (msg .«packet_type») .2) (qos-back (msg .qos) .1) (omega (arith, w .topicLong .0, w .topicLong .1)) (omega (arith, w .size))
     (omega (arith, w .payloadLong .0, w .payloadLong .1))
 
 -- a part of bytes is bytes

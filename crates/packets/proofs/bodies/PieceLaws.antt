@@ -1,16 +1,13 @@
 -- Every piece lies in its body. Assumes nothing.
-use mathlib.Core.Bool.{Bool, true, false}
 use mathlib.Core.List.{List}
 use mathlib.Core.Path.{_≡_}
-use Prim.Native.Nat.{ℕ, _≤_}
+use Prim.Native.Nat.{ℕ}
 use native.Mathlib.Omega.{arith}
 use lib.Dec.{eqb}
-use lib.ListN.{length}
 use Rattle.laws.proofs.Cases.{choose}
 use Rattle.packets.specs.Bodies.{isList, pieceAt}
 use Rattle.packets.specs.Connect.{clientField, connectPiece}
 use Rattle.packets.specs.Fields.{begin}
-use Rattle.packets.specs.Filters.{filterAt}
 use Rattle.packets.specs.Piece.{PieceIn, plainPiece}
 use Rattle.packets.specs.Publish.{hasId, topicField, idField, publishPiece}
 use Rattle.packets.specs.declared.piece.Piece.{Piece}

@@ -2,13 +2,13 @@
 use mathlib.Core.Bool.{true, false}
 use mathlib.Core.List.{List}
 use mathlib.Core.Path.{_≡_, refl, sym, _∙_}
-use Prim.Native.Nat.{ℕ, _+_, _*_, _%_, _≤_, _<_}
+use Prim.Native.Nat.{ℕ, _+_, _≤_, _<_}
 use native.Mathlib.Omega.{arith}
 use lib.Dec.{eqb, ltb}
 use lib.ListN.{length, List·getD-eq-default}
 use borrow.Author.Tests.{eqb-true, lt-ltb, le-ltb}
 use Rattle.laws.proofs.Cases.{by-le, choose, clash}
-use Rattle.packets.specs.Header.{byteAt, sevenAt, lengthIs, lengthOver, lengthAt, typeOf, flagsOf, bodyFrom, sizeOf, headerRefusal, refusedHeader, headerOf, LengthSmall, HeaderIn}
+use Rattle.packets.specs.Header.{byteAt, sevenAt, lengthAt, typeOf, flagsOf, bodyFrom, sizeOf, headerRefusal, refusedHeader, headerOf, LengthSmall, HeaderIn}
 use Rattle.packets.specs.declared.header.Header.{Header}
 use Rattle.packets.specs.declared.header.Length.{Length}
 

@@ -1,20 +1,18 @@
 -- Each way through the message at a step. Assumes nothing.
 use mathlib.Core.Bool.{Bool, true, false}
-use mathlib.Core.List.{List, []}
+use mathlib.Core.List.{List}
 use mathlib.Core.Path.{_≡_, refl, sym, _∙_}
 use Prim.Native.Nat.{ℕ, _+_, _-_, _≤_, _<_}
 use native.Mathlib.Omega.{arith}
-use lib.Dec.{eqb, ltb}
 use lib.ListN.{length, drop, drop-of-length-le, length-take}
-use borrow.Author.Tests.{eq-eqb, ne-eqb, lt-ltb, le-ltb}
+use borrow.Author.Tests.{ne-eqb, lt-ltb, le-ltb}
 use Rattle.laws.proofs.Cases.{choose, clash}
 use Rattle.lines.specs.Span.{part}
 use Rattle.packets.specs.Bodies.{pieceAt}
-use Rattle.packets.specs.Header.{HeaderIn, lengthAt, typeOf, flagsOf, bodyFrom, sizeOf, bodyIn, headerRefusal, headerOf}
+use Rattle.packets.specs.Header.{HeaderIn, lengthAt, bodyFrom, headerRefusal, headerOf}
 use Rattle.packets.specs.Messages.{Placed, sentFrom, noMessage, pieceRefusal, messageFrom, messageFor, messageAt}
-use Rattle.packets.specs.Piece.{PieceIn, isLong}
+use Rattle.packets.specs.Piece.{PieceIn}
 use Rattle.packets.specs.declared.header.Header.{Header}
-use Rattle.packets.specs.declared.messages.PacketMessage.{PacketMessage}
 use Rattle.packets.specs.declared.piece.Piece.{Piece}
 use Rattle.packets.proofs.header.LengthLaws.{Read, number-is, header-read}
 use Rattle.packets.proofs.packet.PacketLaws.{header-none}

@@ -1,5 +1,5 @@
 -- What a packet that is not refused is: a header that is there, a body that was found good, pieces that are good and short; and where it lies. Assumes nothing.
-use mathlib.Core.Bool.{true, false, cond, _&&_}
+use mathlib.Core.Bool.{true, false, _&&_}
 use mathlib.Core.List.{List}
 use mathlib.Core.Path.{_≡_, refl, sym, _∙_}
 use Prim.Native.Nat.{ℕ, _+_, _≤_}
@@ -11,7 +11,7 @@ use Rattle.laws.specs.Lists.{every, some}
 use Rattle.laws.proofs.Cases.{by, by-le, choose, clash}
 use Rattle.laws.proofs.Tests.{both}
 use Rattle.packets.specs.Bodies.{bodyBuilt, piecesOf, firstStep}
-use Rattle.packets.specs.Header.{byteAt, lengthAt, typeOf, flagsOf, bodyFrom, sizeOf, bodyIn, headerRefusal}
+use Rattle.packets.specs.Header.{byteAt, lengthAt, typeOf, flagsOf, sizeOf, bodyIn, headerRefusal}
 use Rattle.packets.specs.Packet.{bodyRefusal, packetRefusal, packetOf, packetAt, PacketIn}
 use Rattle.packets.specs.Piece.{goodPiece, isLong}
 use Rattle.packets.specs.declared.header.Length.{Length}

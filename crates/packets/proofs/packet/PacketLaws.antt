@@ -5,14 +5,14 @@ use mathlib.Core.Path.{_≡_, refl, sym, _∙_}
 use Prim.Native.Nat.{ℕ, _≤_}
 use native.Mathlib.Omega.{arith}
 use lib.Dec.{eqb}
-use lib.ListN.{length, drop, drop-of-length-le}
+use lib.ListN.{length, drop-of-length-le}
 use borrow.Author.Tests.{eqb-true, ne-eqb}
 use Rattle.laws.proofs.Cases.{choose}
 use Rattle.laws.specs.Lists.{every, some}
 use Rattle.lines.specs.Span.{part}
 use Rattle.packets.specs.Bodies.{bodyBuilt, piecesOf, firstStep, lookedAt}
-use Rattle.packets.specs.Header.{lengthAt, typeOf, flagsOf, bodyFrom, sizeOf, bodyIn, headerRefusal, headerOf}
-use Rattle.packets.specs.Packet.{firstOf, bodyRefusal, packetRefusal, refusedPacket, packetOf, packetAt}
+use Rattle.packets.specs.Header.{lengthAt, typeOf, flagsOf, bodyIn, headerRefusal, headerOf}
+use Rattle.packets.specs.Packet.{bodyRefusal, packetRefusal, refusedPacket, packetOf, packetAt}
 use Rattle.packets.specs.Piece.{goodPiece, isLong}
 use Rattle.packets.specs.declared.bodies.Looked.{Looked}
 use Rattle.packets.specs.declared.header.Header.{Header}

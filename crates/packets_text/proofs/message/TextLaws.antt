@@ -17,14 +17,13 @@ use Rattle.forms.specs.Form.{hexForm, wordForm, numberForm, pairForm}
 use Rattle.forms.proofs.LineBounds.{uncapped}
 use Rattle.forms.proofs.ShortLaws.{word-long}
 use Rattle.tables.specs.Numbers.{qosNumber}
-use Rattle.tables.specs.declared.rules.MqttQoS.{MqttQoS}
-use Rattle.tables.specs.declared.rules.MqttQoS.the-variants.{AtMostOnce, AtLeastOnce, ExactlyOnce}
-use Rattle.monitor.specs.Message.{typeNumber}
+use Rattle.tables.proofs.rules.NumberLaws.{qos-back}
+use Rattle.monitor.specs.Message.{typeNumber, typeAt}
 use Rattle.monitor.specs.declared.message.MqttMessage.{MqttMessage}
 use Rattle.monitor.specs.declared.message.MqttPacketType.{MqttPacketType}
 use Rattle.monitor.specs.declared.message.MqttPacketType.the-variants.{Connect, ConnAck, Publish, PubAck, PubRec, PubRel, PubComp}
 use Rattle.monitor.specs.declared.message.MqttPacketType.the-variants.{Subscribe, SubAck, Unsubscribe, UnsubAck, PingReq, PingResp, Disconnect, Auth}
-use Rattle.packets_text.specs.MessageText.{clockNumber, valuesOf, messageLines, messageText}
+use Rattle.packets_text.specs.MessageText.{clockNumber, messageLines, messageText}
 
 -- the words of the clock
 abbrev clocks : List ℕ
@@ -55,28 +54,23 @@ pub record MessageTyped (msg : MqttMessage) : Type 0 where
   pub time : msg .«timestamp_us» < 2 ^ 64
   pub size : msg .«payload_len» < 65536
 
--- a type and a QoS have two digits and one
-pub type-small : (k : MqttPacketType) → typeNumber k ≤ 15
-type-small Connect = omega arith
-type-small ConnAck = omega arith
-type-small Publish = omega arith
-type-small PubAck = omega arith
-type-small PubRec = omega arith
-type-small PubRel = omega arith
-type-small PubComp = omega arith
-type-small Subscribe = omega arith
-type-small SubAck = omega arith
-type-small Unsubscribe = omega arith
-type-small UnsubAck = omega arith
-type-small PingReq = omega arith
-type-small PingResp = omega arith
-type-small Disconnect = omega arith
-type-small Auth = omega arith
-
-pub qos-small : (q : MqttQoS) → qosNumber q ≤ 2
-qos-small AtMostOnce = omega arith
-qos-small AtLeastOnce = omega arith
-qos-small ExactlyOnce = omega arith
+-- a type's number names it, and is 1 to 15
+pub type-back : (k : MqttPacketType) → (typeAt (typeNumber k) ≡ k) × (1 ≤ typeNumber k) × (typeNumber k ≤ 15)
+type-back Connect = (refl, omega arith, omega arith)
+type-back ConnAck = (refl, omega arith, omega arith)
+type-back Publish = (refl, omega arith, omega arith)
+type-back PubAck = (refl, omega arith, omega arith)
+type-back PubRec = (refl, omega arith, omega arith)
+type-back PubRel = (refl, omega arith, omega arith)
+type-back PubComp = (refl, omega arith, omega arith)
+type-back Subscribe = (refl, omega arith, omega arith)
+type-back SubAck = (refl, omega arith, omega arith)
+type-back Unsubscribe = (refl, omega arith, omega arith)
+type-back UnsubAck = (refl, omega arith, omega arith)
+type-back PingReq = (refl, omega arith, omega arith)
+type-back PingResp = (refl, omega arith, omega arith)
+type-back Disconnect = (refl, omega arith, omega arith)
+type-back Auth = (refl, omega arith, omega arith)
 
 module _ (t c k q : ℕ) (n : List ℕ) (z : ℕ) (p : List ℕ) where
   text-length : length (messageLines .text (t, (c, (k, (q, (n, (z, p)))))))
@@ -120,7 +114,7 @@ message-sum msg n p typed hn hp ec ek eq e1 e2 e3 e4 e5 e6 e7 =
     let k : ℕ = typeNumber (msg .«packet_type») in
     let q : ℕ = qosNumber (msg .qos) in
     let z : ℕ = msg .«payload_len» in
-    let s = lines-short t c k q n z p (typed .time) (type-small (msg .«packet_type»)) (qos-small (msg .qos)) hn (typed .size) hp in
+    let s = lines-short t c k q n z p (typed .time) (type-back (msg .«packet_type») .2) (qos-back (msg .qos) .1) hn (typed .size) hp in
     let l = text-length t c k q n z p in
     let b1 = uncapped e1 (omega (arith, l, s)) in
     let b2 = uncapped (rw ec at e2) (omega (arith, l, s)) in

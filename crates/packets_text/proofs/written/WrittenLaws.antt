@@ -1,20 +1,18 @@
 -- Laws of a packet's lines: the loops over its messages, and each way through the answer. What is left of the messages at a step is `stepped`; all of them are good. Assumes nothing.
-use mathlib.Core.Bool.{Bool, true, false, cond, _&&_}
-use mathlib.Core.List.{List, [], _∷_, _++_, map}
-use mathlib.Core.Path.{_≡_, refl, sym, ap, _∙_}
-use Prim.Native.Nat.{ℕ, zero, suc, _+_, _-_, _*_, _≤_, _<_}
+use mathlib.Core.Bool.{Bool, true}
+use mathlib.Core.List.{List, [], _∷_, _++_}
+use mathlib.Core.Path.{_≡_, ap, _∙_}
+use Prim.Native.Nat.{ℕ, zero, suc, _+_, _-_, _≤_, _<_}
 use native.Mathlib.Numerals.{sub-one}
 use native.Mathlib.Omega.{arith}
-use lib.Dec.{eqb, leb}
+use lib.Dec.{eqb}
 use lib.ListN.{length, length-append}
 use lib.Seq.{sets}
-use borrow.Author.Tests.{eqb-true, eq-eqb, ne-eqb, le-leb, lt-leb}
+use borrow.Author.Tests.{eqb-true, ne-eqb, le-leb, lt-leb}
 use Rattle.laws.specs.Lists.{every}
 use Rattle.laws.proofs.Tests.{both}
-use Rattle.lines.specs.Wrote.{Wrote}
-use Rattle.lines.proofs.put.WroteLaws.{wrote-none, wrote-then}
-use Rattle.packets.specs.Messages.{messageAt, messagesAt}
-use Rattle.packets.specs.Packet.{firstOf, packetAt}
+use Rattle.packets.specs.Messages.{messageAt}
+use Rattle.packets.specs.Packet.{packetAt}
 use Rattle.packets.specs.Steps.{stepped}
 use Rattle.packets.specs.Taken.{Within}
 use Rattle.packets.specs.declared.messages.PacketMessage.{PacketMessage}
@@ -22,7 +20,6 @@ use Rattle.packets.specs.declared.packet.Packet.{Packet}
 use Rattle.packets.proofs.Steps.{steps, all-good, few}
 use Rattle.packets.proofs.Taken.{taken}
 use Rattle.packets_text.specs.PacketText.{textOf, textsOf, packetText, linesRefusal, noLines, linesEnd, linesKept}
-use Rattle.packets_text.specs.declared.written.PacketLines.{PacketLines}
 
 module _ (s : List ℕ) (place «now_us» : ℕ) (ok : Bool) where
   -- so many messages from a step on
