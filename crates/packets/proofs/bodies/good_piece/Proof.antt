@@ -11,7 +11,7 @@ unfolding goodPiece
 returns c = guard-off (c .before .before .before .args .p .fine) _ (c .if1 .taken)
 
 sub-is-string : tie.Need-sub-is-string
-sub-is-string c = c .before .before .before .pre .ordered
+sub-is-string c = omega (arith, c .before .before .before .pre .ordered)
 
 part-is-string-start : tie.Need-part-is-string-start
 part-is-string-start c = omega (arith, c .before .before .before .pre .ordered)

@@ -1,12 +1,19 @@
 -- `packets::connect::connect_built` meets its contract. Assumes nothing.
-use mathlib.Core.Path.{sym, _∙_}
+use mathlib.Core.Bool.{Bool}
+use mathlib.Core.List.{List}
+use mathlib.Core.Path.{_≡_, sym, _∙_}
+use Prim.Native.Nat.{ℕ}
 use native.Mathlib.Omega.{arith}
 use borrow.Author.Tests.{eq-eqb, ne-eqb, not-true, not-false}
-use Rattle.packets.specs.Connect.{connectBuilt}
+use Rattle.packets.specs.Connect.{connectHead, connectBuilt}
 use Rattle.packets.proofs.connect.ConnectLaws.{head-long}
 use borrow.Author.Needs.{needs}
 use Rattle.packets.proofs.connect.connect_built.Statement.{statement}
 use Rattle.packets.proofs.connect.connect_built.Tie as tie
+
+-- what the test of the head says: of level 4
+at-level-4 : (b : List ℕ) {r : Bool} → r ≡ connectHead 4 b → r ≡ connectHead 4 b
+at-level-4 b e = e
 
 returns : tie.Need-returns
 unfolding connectBuilt
@@ -17,10 +24,10 @@ connect-head-requires c κs = search needs
 
 returns-2 : tie.Need-returns-2
 unfolding connectBuilt
-returns-2 c = let h = sym (c .before .connect-head .ensures) ∙ not-true _ (c .if2 .taken) in rw (eq-eqb _ 0 (c .before .before .if1 .left), h)
+returns-2 c = let h = sym (at-level-4 _ (c .before .connect-head .ensures)) ∙ not-true _ (c .if2 .taken) in rw (eq-eqb _ 0 (c .before .before .if1 .left), h)
 
 shared-slice-read-f : tie.Need-shared-slice-read-f
-shared-slice-read-f c = let h = head-long 4 _ (sym (c .before .before .connect-head .ensures) ∙ not-false _ (c .before .if2 .left)) in omega arith
+shared-slice-read-f c = let h = head-long 4 _ (sym (at-level-4 _ (c .before .before .connect-head .ensures)) ∙ not-false _ (c .before .if2 .left)) in omega arith
 
 will-flags-requires : tie.Need-will-flags-requires
 will-flags-requires c κs = search needs
@@ -31,7 +38,7 @@ returns-3 c =
     let if1 = c .before .before .before .before .before .if1 in
     let connect-head = c .before .before .before .before .connect-head in
     let if2 = c .before .before .before .if2 in
-    let h = sym (connect-head .ensures) ∙ not-false _ (if2 .left) in
+    let h = sym (at-level-4 _ (connect-head .ensures)) ∙ not-false _ (if2 .left) in
     let w = sym (c .before .will-flags .ensures) ∙ not-true _ (c .if3 .taken) in
     rw (eq-eqb _ 0 (if1 .left), h, w)
 
@@ -46,7 +53,7 @@ returns-4 c =
     let if2 = will-flags .before .before in
     let connect-head = if2 .before in
     let if1 = connect-head .before in
-    let h = sym (connect-head .connect-head .ensures) ∙ not-false _ (if2 .if2 .left) in
+    let h = sym (at-level-4 _ (connect-head .connect-head .ensures)) ∙ not-false _ (if2 .if2 .left) in
     let w = sym (will-flags .will-flags .ensures) ∙ not-false _ (if3 .if3 .left) in
     let p = sym (c .before .password-flag .ensures) ∙ not-true _ (c .if4 .taken) in
     rw (eq-eqb _ 0 (if1 .if1 .left), h, w, p)
@@ -72,7 +79,7 @@ returns-5 c =
     let if2 = will-flags .before .before in
     let connect-head = if2 .before in
     let if1 = connect-head .before in
-    let h = sym (connect-head .connect-head .ensures) ∙ not-false _ (if2 .if2 .left) in
+    let h = sym (at-level-4 _ (connect-head .connect-head .ensures)) ∙ not-false _ (if2 .if2 .left) in
     let w = sym (will-flags .will-flags .ensures) ∙ not-false _ (if3 .if3 .left) in
     let p = sym (password-flag .password-flag .ensures) ∙ not-false _ (if4 .if4 .left) in
     let n = sym (c .before .client-named .ensures) ∙ not-true _ (c .if5 .taken) in
@@ -98,7 +105,7 @@ returns-6 c =
     let if2 = will-flags .before .before in
     let connect-head = if2 .before in
     let if1 = connect-head .before in
-    let h = sym (connect-head .connect-head .ensures) ∙ not-false _ (if2 .if2 .left) in
+    let h = sym (at-level-4 _ (connect-head .connect-head .ensures)) ∙ not-false _ (if2 .if2 .left) in
     let w = sym (will-flags .will-flags .ensures) ∙ not-false _ (if3 .if3 .left) in
     let p = sym (password-flag .password-flag .ensures) ∙ not-false _ (if4 .if4 .left) in
     let n = sym (client-named .client-named .ensures) ∙ not-false _ (if5 .if5 .left) in

@@ -26,16 +26,22 @@ shared-slice-read-high : tie.Need-shared-slice-read-high
 shared-slice-read-high c = let h = room-is _ _ 2 (sym (c .before .before .room-behind .ensures) ∙ not-false _ (c .before .if1 .left)) in omega arith
 
 cast-high : tie.Need-cast-high
-cast-high c = omega (arith, c .shared-slice-known2 .given (c .before .before .before .before .args .f .next))
+cast-high c =
+    let start = c .before .before .before .before in
+    omega (arith, c .shared-slice-known2 .given (start .args .f .next), c .shared-slice-known2 .given (start .args .f .next + 1))
 
 mul-value : tie.Need-mul-value
-mul-value c = omega (arith, c .shared-slice-known2 .given (c .before .before .before .before .args .f .next))
+mul-value c =
+    let start = c .before .before .before .before in
+    omega (arith, c .shared-slice-known2 .given (start .args .f .next), c .shared-slice-known2 .given (start .args .f .next + 1))
 
 shared-slice-read-value : tie.Need-shared-slice-read-value
 shared-slice-read-value c = let h = room-is _ _ 2 (sym (c .before .before .before .room-behind .ensures) ∙ not-false _ (c .before .before .if1 .left)) in omega arith
 
 cast-value : tie.Need-cast-value
-cast-value c = omega (arith, c .before .shared-slice-known2 .given (c .before .before .before .before .before .args .f .next + 1))
+cast-value c =
+    let start = c .before .before .before .before .before in
+    omega (arith, c .before .shared-slice-known2 .given (start .args .f .next + 1), c .before .shared-slice-known2 .given (start .args .f .next))
 
 add-value : tie.Need-add-value
 add-value c =

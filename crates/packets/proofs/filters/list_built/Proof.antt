@@ -1,10 +1,17 @@
 -- `packets::filters::list_built` meets its contract. Assumes nothing.
-use mathlib.Core.Path.{sym, _∙_}
+use mathlib.Core.Bool.{Bool, true}
+use mathlib.Core.Path.{_≡_, sym, _∙_}
 use borrow.Author.Tests.{eq-eqb, ne-eqb, not-true, not-false}
 use Rattle.packets.specs.Filters.{listBuilt}
+use Rattle.packets.specs.Publish.{identified}
+use Rattle.packets.specs.declared.fields.Field.{Field}
 use borrow.Author.Needs.{needs}
 use Rattle.packets.proofs.filters.list_built.Statement.{statement}
 use Rattle.packets.proofs.filters.list_built.Tie as tie
+
+-- an identifier is due
+asked : (f : Field) {r : Bool} → r ≡ identified true f → r ≡ identified true f
+asked f e = e
 
 returns : tie.Need-returns
 unfolding listBuilt
@@ -25,7 +32,7 @@ returns-2 c =
     let if1 = c .before .before .before .before .if1 in
     let begin-at = c .before .before .before .begin-at in
     let number-field = c .before .before .number-field in
-    let e = sym (c .before .is-identified .ensures) ∙ not-true _ (c .if2 .taken) in
+    let e = sym (asked _ (c .before .is-identified .ensures)) ∙ not-true _ (c .if2 .taken) in
     rw (eq-eqb _ 2 (if1 .left), ← begin-at .ensures, ← number-field .ensures, e)
 
 returns-3 : tie.Need-returns-3
@@ -34,7 +41,7 @@ returns-3 c =
     let if1 = c .before .before .before .before .if1 in
     let begin-at = c .before .before .before .begin-at in
     let number-field = c .before .before .number-field in
-    let e = sym (c .before .is-identified .ensures) ∙ not-false _ (c .if2 .left) in
+    let e = sym (asked _ (c .before .is-identified .ensures)) ∙ not-false _ (c .if2 .left) in
     rw (eq-eqb _ 2 (if1 .left), ← begin-at .ensures, ← number-field .ensures, e)
 
 pub list-built-spec : {M : Type 1} → statement M

@@ -1,8 +1,14 @@
 -- `packets::messages::message_from` meets its contract. Assumes nothing.
+use mathlib.Core.Path.{_≡_}
+use Prim.Native.Nat.{ℕ, min}
 use native.Mathlib.Omega.{arith}
 use borrow.Author.Needs.{needs}
 use Rattle.packets.proofs.messages.message_from.Statement.{statement}
 use Rattle.packets.proofs.messages.message_from.Tie as tie
+
+-- a number, cut there
+up-to : (most size : ℕ) {n : ℕ} → n ≡ min size most → n ≡ min size most
+up-to most size e = e
 
 add-base : tie.Need-add-base
 add-base c = omega (arith, c .before .pre .ends, c .before .pre .body)
@@ -75,7 +81,7 @@ returns c =
     let qos-at = at-most2 .before .before in
     let type-at = qos-at .before .before in
     let at-most = type-at .before .before in
-    rw (← type-at .type-at .ensures, ← qos-at .qos-at .ensures, ← at-most .at-most .ensures, ← at-most2 .at-most2 .ensures)
+    rw (← type-at .type-at .ensures, ← qos-at .qos-at .ensures, ← up-to 256 _ (at-most .at-most .ensures), ← up-to 65535 _ (at-most2 .at-most2 .ensures))
 
 pub message-from-spec : {M : Type 1} → statement M
 message-from-spec =

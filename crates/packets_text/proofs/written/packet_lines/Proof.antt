@@ -1,11 +1,19 @@
 -- `packets_text::written::packet_lines` meets its contract. Assumes nothing.
-use mathlib.Core.Path.{_∙_}
+use Prim.Native.Nat.{ℕ, _≤_, _<_}
+use mathlib.Core.Path.{_≡_, _∙_}
 use native.Mathlib.Omega.{arith}
 use lib.ListN.{length}
 use Rattle.packets_text.proofs.written.WrittenLaws.{refused-packet, refused-room, refused-none, end-refused, end-whole, kept-whole}
 use borrow.Author.Needs.{needs}
 use Rattle.packets_text.proofs.written.packet_lines.Statement.{statement}
 use Rattle.packets_text.proofs.written.packet_lines.Tie as tie
+
+-- what the lines need, and the room
+above : {need all room : ℕ} → need ≡ all → room < need → room < all
+above e h = rw e at h
+
+within : {need all room : ℕ} → need ≡ all → need ≤ room → all ≤ room
+within e h = rw e at h
 
 read-packet-requires : tie.Need-read-packet-requires
 read-packet-requires c κs = search needs
@@ -32,7 +40,7 @@ returns-2 c =
     let if1 = texts-len .before in
     let read-packet = if1 .before .before in
     let start = read-packet .before .before .before in
-    let e = end-refused _ _ _ _ (start .args .out .now) (refused-room _ _ _ _ (read-packet .read-packet .ensures .0) (if1 .if1 .left) _ (rw (texts-len .texts-len .ensures) at (c
+    let e = end-refused _ _ _ _ (start .args .out .now) (refused-room _ _ _ _ (read-packet .read-packet .ensures .0) (if1 .if1 .left) _ (above (texts-len .texts-len .ensures) (c
     .before .if2 .taken))) (λ z.
     absurd (omega arith)) in
     (c .no-lines2 .ensures ∙ e .0, (e .1, rw (c .no-lines2 .ensures) (omega arith)))
@@ -47,7 +55,7 @@ returns-3 : tie.Need-returns-3
 returns-3 c =
     let start = c .before .before .before .before .before .before .before .before .before .before .before in
     let r = refused-none _ _ _ _ (c .before .before .before .before .before .before .before .before .read-packet .ensures .0) (c .before .before .before .before .before .before
-    .if1 .left) (length (start .args .out .now)) (rw (c .before .before .before .before .before .texts-len .ensures) at (c .before .before .before .before .if2 .left)) in (
+    .if1 .left) (length (start .args .out .now)) (within (c .before .before .before .before .before .texts-len .ensures) (c .before .before .before .before .if2 .left)) in (
       end-whole _ _ _ _ (start .args .out .now) r (c .before .before .before .before .before .texts-len .ensures),
       (
         c .before .before .put-texts .ensures ∙ kept-whole _ _ _ _ (start
