@@ -146,6 +146,7 @@ missing =
     record {
       settled = settled;
       kept = λ s t place step «now_us» ok u. kept s t place u step «now_us» ok;
+      cut = λ s o h. header-first s (short-is s o (omega arith)) (λ e. absurd (omega arith));
       awaited = λ s t o h. (λ e. by-le (sizeOf s) (length s + length t) (λ l. absurd (then-whole s t o h l e)) (λ l. l), then-short s t o h);
       enough = λ s place h e. enough (drop place s) (omega (arith, length-drop place s)) (sym (packet-number (drop place s)) ∙ e);
     }

@@ -17,6 +17,8 @@ pub record Missing : Type 0 where
   pub kept :
       (s t : List ℕ) (place step «now_us» : ℕ) (ok : Bool) → (packetAt s place .number ≡ 31 → ⊥)
       → messageAt (s ++ t) place step «now_us» ok ≡ messageAt s place step «now_us» ok
+  -- where the bytes end before or within the length field it is 31
+  pub cut : (s : List ℕ) → lengthAt s 1 .over ≡ false → length s < bodyFrom s → packetRefusal s ≡ 31
   -- where a length field of at most four bytes is there, 31 means that with what follows there are fewer bytes than it says
   pub awaited :
       (s t : List ℕ) → lengthAt s 1 .over ≡ false → bodyFrom s ≤ length s

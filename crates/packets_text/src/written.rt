@@ -84,14 +84,14 @@ fn put_texts(out: &mut [u8], bytes: &[u8], place: usize, p: Packet, now_us: u64,
     requires { ⌜ p .number ≡ 0 ⌝ }
     ensures { λ _. ⌜ now (out .exit) ≡ sets (now (out .entry)) 0 (packetText (now (bytes .entry)) place «now_us» ok) ⌝ }
 {
-    let mut left = p.messages;
+    let mut unwritten = p.messages;
     let mut step = p.first;
     let mut at: usize = 0;
-    while 0 < left {
+    while 0 < unwritten {
         let m = message_at(bytes, place, step, now_us, ok);
         at = put_text(out, at, bytes, place, m);
         step = m.next;
-        left -= 1;
+        unwritten -= 1;
     }
 }
 

@@ -13,12 +13,12 @@ use Rattle.packets_text.proofs.written.put_texts.Statement.{statement}
 use Rattle.packets_text.proofs.written.put_texts.Tie as tie
 
 abbrev Inv-loop : tie.InvT-loop
-Inv-loop out₀ bytes place now-us ok left₀ step₀ at₀ out k step at =
-    ((f : List ℕ) (r : ℕ) → Wrote out f at (textsOf bytes (left bytes place now-us ok k step)) r → Wrote out₀ f 0 (textsOf bytes (left bytes place now-us ok left₀ step₀)) r)
+Inv-loop out₀ bytes place now-us ok unwritten₀ step₀ at₀ out k step at =
+    ((f : List ℕ) (r : ℕ) → Wrote out f at (textsOf bytes (left bytes place now-us ok k step)) r → Wrote out₀ f 0 (textsOf bytes (left bytes place now-us ok unwritten₀ step₀)) r)
     × Good bytes place now-us ok k step × (length out ≡ length out₀)
 
 abbrev μ-loop : tie.MeasureT-loop
-μ-loop out₀ bytes place now-us ok left₀ step₀ at₀ out k step at = k
+μ-loop out₀ bytes place now-us ok unwritten₀ step₀ at₀ out k step at = k
 
 loop-holds : tie.Need-loop-holds Inv-loop μ-loop
 loop-holds c = (λ f r w. w, first-good _ _ _ _ (c .before .before .pre .0) (c .before .before .pre .1), refl)
@@ -29,8 +29,8 @@ message-at-requires c κs = search needs
 put-text-requires : tie.Need-put-text-requires Inv-loop μ-loop
 put-text-requires c κs = good-now _ _ _ _ _ (c .before .before .loop-test .taken) (c .before .message-at .ensures) (c .before .before .before .loop .inv .1)
 
-sub-left : tie.Need-sub-left Inv-loop μ-loop
-sub-left c = search needs
+sub-unwritten : tie.Need-sub-unwritten Inv-loop μ-loop
+sub-unwritten c = search needs
 
 loop-less : tie.Need-loop-less Inv-loop μ-loop
 loop-less c = search needs
@@ -55,7 +55,7 @@ returns c =
     let start = c .before .before .before .before in
     let a = start .args in
     let turn = c .before .loop in
-    let none = none-text (a .bytes .now) (a .place) (a .now-us) (a .ok) {k = turn .left} (turn .step) (omega (arith, c .loop-test .left)) in
+    let none = none-text (a .bytes .now) (a .place) (a .now-us) (a .ok) {k = turn .unwritten} (turn .step) (omega (arith, c .loop-test .left)) in
     rw (← first-text (a .bytes .now) (a .place) (a .now-us) (a .ok) (start .pre .0) (start .pre .1)) (turn .inv .0 (turn .out) (turn .at) (rw none (wrote-none (turn .out) (turn .at))) .bytes)
 
 pub put-texts-spec : {M : Type 1} → statement M
@@ -67,7 +67,7 @@ put-texts-spec =
     loop-holds
     message-at-requires
     put-text-requires
-    sub-left
+    sub-unwritten
     loop-less
     loop-again
     same-length
