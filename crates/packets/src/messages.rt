@@ -61,7 +61,7 @@ fn at_most(n: usize, most: usize) -> usize
 }
 
 // The message of a piece of the packet at a place, whose body stands at from..to of the packet.
-fn message_from(h: Header, place: usize, now_us: u64, ok: bool, p: Piece) -> PacketMessage
+fn sent_from(h: Header, place: usize, now_us: u64, ok: bool, p: Piece) -> PacketMessage
     requires { ⌜ Placed h place p ⌝ }
     ensures { λ r. ⌜ r ≡ sentFrom (h .kind) (h .to - h .from) (place + h .from) «now_us» ok p ⌝ }
 {
@@ -107,7 +107,7 @@ fn message_for(s: &[u8], place: usize, step: usize, now_us: u64, ok: bool) -> Pa
     if TOPIC_MAX < p.to - p.from {
         return no_message(33);
     }
-    message_from(h, place, now_us, ok, p)
+    sent_from(h, place, now_us, ok, p)
 }
 
 // The message at a step of the packet at a place; any place, and any step. The steps are those that `read_packet` and this call hand out. What `read_packet` tested is not tested again: ask it first,

@@ -2,13 +2,13 @@
 use mathlib.Core.Bool.{true, false}
 use mathlib.Core.List.{List}
 use mathlib.Core.Path.{_≡_, refl, sym, _∙_}
-use Prim.Native.Nat.{ℕ, _+_, _≤_, _<_}
+use Prim.Native.Nat.{ℕ, _+_, _*_, _%_, _≤_, _<_}
 use native.Mathlib.Omega.{arith}
 use lib.Dec.{eqb, ltb}
 use lib.ListN.{length, List·getD-eq-default}
 use borrow.Author.Tests.{eqb-true, lt-ltb, le-ltb}
 use Rattle.laws.proofs.Cases.{by-le, choose, clash}
-use Rattle.packets.specs.Header.{byteAt, sevenAt, lengthAt, typeOf, flagsOf, bodyFrom, sizeOf, headerRefusal, refusedHeader, headerOf, LengthSmall, HeaderIn}
+use Rattle.packets.specs.Header.{byteAt, sevenAt, lengthIs, lengthOver, lengthAt, typeOf, flagsOf, bodyFrom, sizeOf, headerRefusal, refusedHeader, headerOf, LengthSmall, HeaderIn}
 use Rattle.packets.specs.declared.header.Header.{Header}
 use Rattle.packets.specs.declared.header.Length.{Length}
 
@@ -27,8 +27,33 @@ length-small s at =
     (λ _. record { bytes = omega arith; value = omega arith }))))
 
 -- so whatever equals it is small, too
-pub small-is : (s : List ℕ) (at : ℕ) {l : Length} → l ≡ lengthAt s at → (l ≡ lengthAt s at) × LengthSmall l
+small-is : (s : List ℕ) (at : ℕ) {l : Length} → l ≡ lengthAt s at → (l ≡ lengthAt s at) × LengthSmall l
 small-is s at e = (e, rw e (length-small s at))
+
+-- each way through the field, by its bytes: `l` is what was made of them
+module _ (s : List ℕ) (at : ℕ) {a : ℕ} (ea : a ≡ byteAt s at) where
+  pub length-1 : a < 128 → {l : Length} → l ≡ lengthIs 1 (a % 128) → (l ≡ lengthAt s at) × LengthSmall l
+  unfolding lengthAt
+  length-1 h e = small-is s at (rw (← ea, lt-ltb a 128 h) e)
+
+  module _ (ha : 128 ≤ a) {b : ℕ} (eb : b ≡ byteAt s (at + 1)) where
+    pub length-2 : b < 128 → {l : Length} → l ≡ lengthIs 2 (a % 128 + b % 128 * 128) → (l ≡ lengthAt s at) × LengthSmall l
+    unfolding lengthAt
+    length-2 h e = small-is s at (rw (← ea, le-ltb a 128 ha, ← eb, lt-ltb b 128 h) e)
+
+    module _ (hb : 128 ≤ b) {c : ℕ} (ec : c ≡ byteAt s (at + 2)) where
+      pub length-3 : c < 128 → {l : Length} → l ≡ lengthIs 3 (a % 128 + b % 128 * 128 + c % 128 * 16384) → (l ≡ lengthAt s at) × LengthSmall l
+      unfolding lengthAt
+      length-3 h e = small-is s at (rw (← ea, le-ltb a 128 ha, ← eb, le-ltb b 128 hb, ← ec, lt-ltb c 128 h) e)
+
+      module _ (hc : 128 ≤ c) {d : ℕ} (ed : d ≡ byteAt s (at + 3)) where
+        pub length-4 : d < 128 → {l : Length} → l ≡ lengthIs 4 (a % 128 + b % 128 * 128 + c % 128 * 16384 + d % 128 * 2097152) → (l ≡ lengthAt s at) × LengthSmall l
+        unfolding lengthAt
+        length-4 h e = small-is s at (rw (← ea, le-ltb a 128 ha, ← eb, le-ltb b 128 hb, ← ec, le-ltb c 128 hc, ← ed, lt-ltb d 128 h) e)
+
+        pub length-5 : 128 ≤ d → (lengthOver ≡ lengthAt s at) × LengthSmall lengthOver
+        unfolding lengthAt
+        length-5 h = small-is s at (rw (← ea, le-ltb a 128 ha, ← eb, le-ltb b 128 hb, ← ec, le-ltb c 128 hc, ← ed, le-ltb d 128 h))
 
 -- a byte that is not 0 is there
 pub there : (s : List ℕ) (at : ℕ) → 128 ≤ byteAt s at → at < length s

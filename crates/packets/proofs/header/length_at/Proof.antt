@@ -1,12 +1,17 @@
 -- `packets::header::length_at` meets its contract. Assumes nothing.
 use Prim.Native.Nat.{_+_}
 use native.Mathlib.Omega.{arith}
-use borrow.Author.Tests.{le-ltb, lt-ltb}
-use Rattle.packets.specs.Header.{lengthAt}
-use Rattle.packets.proofs.header.LengthLaws.{small-is, there}
+use Rattle.packets.proofs.header.LengthLaws.{length-1, length-2, length-3, length-4, length-5, there}
 use borrow.Author.Needs.{needs}
 use Rattle.packets.proofs.header.length_at.Statement.{statement}
 use Rattle.packets.proofs.header.length_at.Tie as tie
+
+-- where a byte said that one more follows, the byte before it did, too
+abbrev first : tie.Else2 → tie.Else1
+first c = c .before .before
+
+abbrev second : tie.Else3 → tie.Else2
+second c = c .before .before
 
 byte-at-requires : tie.Need-byte-at-requires
 byte-at-requires c κs = search needs
@@ -18,11 +23,10 @@ length-is-requires : tie.Need-length-is-requires
 length-is-requires c κs = search needs
 
 returns : tie.Need-returns
-unfolding lengthAt
 returns c =
-    let start = c .before .before .before .before in
-    let byte-at = c .before .before .byte-at in
-    small-is (start .args .s .now) (start .args .at) (rw (← byte-at .ensures, lt-ltb _ 128 (c .before .if1 .taken)) (c .length-is .ensures))
+    let byte = c .before .before in
+    let start = byte .before .before in
+    length-1 (start .args .s .now) (start .args .at) (byte .byte-at .ensures) (c .before .if1 .taken) (c .length-is .ensures)
 
 add-byte-at : tie.Need-add-byte-at
 add-byte-at c =
@@ -46,20 +50,10 @@ length-is-requires-2 : tie.Need-length-is-requires-2
 length-is-requires-2 c κs = search needs
 
 returns-2 : tie.Need-returns-2
-unfolding lengthAt
 returns-2 c =
-    let byte-at2 = c .before .before in
-    let if1 = byte-at2 .before in
-    let byte-at = if1 .before in
-    let start = byte-at .before .before in
-    small-is (start .args .s .now) (start .args .at) (rw (
-      ← byte-at .byte-at .ensures,
-      le-ltb _ 128 (if1 .if1 .left),
-      ← byte-at2 .byte-at2 .ensures,
-      lt-ltb _ 128 (c .before .if2
-          .taken),
-    ) (c .length-is2
-    .ensures))
+    let one = c .before .before .before in
+    let start = one .before .before .before in
+    length-2 (start .args .s .now) (start .args .at) (one .before .byte-at .ensures) (one .if1 .left) (c .before .before .byte-at2 .ensures) (c .before .if2 .taken) (c .length-is2 .ensures)
 
 add-byte-at-2 : tie.Need-add-byte-at-2
 add-byte-at-2 c =
@@ -83,23 +77,12 @@ length-is-requires-3 : tie.Need-length-is-requires-3
 length-is-requires-3 c κs = search needs
 
 returns-3 : tie.Need-returns-3
-unfolding lengthAt
 returns-3 c =
-    let byte-at3 = c .before .before in
-    let if2 = byte-at3 .before in
-    let byte-at2 = if2 .before in
-    let if1 = byte-at2 .before in
-    let byte-at = if1 .before in
-    let start = byte-at .before .before in
-    small-is (start .args .s .now) (start .args .at) (rw (
-      ← byte-at .byte-at .ensures,
-      le-ltb _ 128 (if1 .if1 .left),
-      ← byte-at2 .byte-at2 .ensures,
-      le-ltb _ 128 (if2 .if2 .left),
-      ← byte-at3 .byte-at3 .ensures,
-      lt-ltb _
-          128 (c .before .if3 .taken),
-    ) (c .length-is3 .ensures))
+    let two = c .before .before .before in
+    let one = first two in
+    let start = one .before .before .before in
+    length-3 (start .args .s .now) (start .args .at) (one .before .byte-at .ensures) (one .if1 .left) (two .before .byte-at2 .ensures) (two .if2 .left) (c .before .before .byte-at3 .ensures)
+    (c .before .if3 .taken) (c .length-is3 .ensures)
 
 add-byte-at-3 : tie.Need-add-byte-at-3
 add-byte-at-3 c =
@@ -123,49 +106,22 @@ length-is-requires-4 : tie.Need-length-is-requires-4
 length-is-requires-4 c κs = search needs
 
 returns-4 : tie.Need-returns-4
-unfolding lengthAt
 returns-4 c =
-    let byte-at4 = c .before .before in
-    let if3 = byte-at4 .before in
-    let byte-at3 = if3 .before in
-    let if2 = byte-at3 .before in
-    let byte-at2 = if2 .before in
-    let if1 = byte-at2 .before in
-    let byte-at = if1 .before in
-    let start = byte-at .before .before in
-    small-is (start .args .s .now) (start .args .at) (rw (
-      ← byte-at .byte-at .ensures,
-      le-ltb _ 128 (if1 .if1 .left),
-      ← byte-at2 .byte-at2 .ensures,
-      le-ltb _ 128 (if2 .if2 .left),
-      ← byte-at3 .byte-at3 .ensures,
-      le-ltb _
-          128 (if3 .if3 .left),
-      ← byte-at4 .byte-at4 .ensures,
-      lt-ltb _ 128 (c .before .if4 .taken),
-    ) (c .length-is4 .ensures))
+    let three = c .before .before .before in
+    let two = second three in
+    let one = first two in
+    let start = one .before .before .before in
+    length-4 (start .args .s .now) (start .args .at) (one .before .byte-at .ensures) (one .if1 .left) (two .before .byte-at2 .ensures) (two .if2 .left) (three .before .byte-at3 .ensures)
+    (three .if3 .left) (c .before .before .byte-at4 .ensures) (c .before .if4 .taken) (c .length-is4 .ensures)
 
 returns-5 : tie.Need-returns-5
-unfolding lengthAt
 returns-5 c =
-    let if3 = c .before .before in
-    let byte-at3 = if3 .before in
-    let if2 = byte-at3 .before in
-    let byte-at2 = if2 .before in
-    let if1 = byte-at2 .before in
-    let byte-at = if1 .before in
-    let start = byte-at .before .before in
-    small-is (start .args .s .now) (start .args .at) (rw (
-      ← byte-at .byte-at .ensures,
-      le-ltb _ 128 (if1 .if1 .left),
-      ← byte-at2 .byte-at2 .ensures,
-      le-ltb _ 128 (if2 .if2 .left),
-      ← byte-at3 .byte-at3 .ensures,
-      le-ltb _
-          128 (if3 .if3 .left),
-      ← c .before .byte-at4 .ensures,
-      le-ltb _ 128 (c .if4 .left),
-    ))
+    let three = c .before .before in
+    let two = second three in
+    let one = first two in
+    let start = one .before .before .before in
+    length-5 (start .args .s .now) (start .args .at) (one .before .byte-at .ensures) (one .if1 .left) (two .before .byte-at2 .ensures) (two .if2 .left) (three .before .byte-at3 .ensures)
+    (three .if3 .left) (c .before .byte-at4 .ensures) (c .if4 .left)
 
 pub length-at-spec : {M : Type 1} → statement M
 length-at-spec =

@@ -56,8 +56,8 @@ returns-3 c =
     (not-false (piece-at .piece-at .result .fine)
     (if2 .if2 .left)) (c .before .if3 .taken)) (λ z. absurd (omega arith))
 
-message-from-requires : tie.Need-message-from-requires
-message-from-requires c κs =
+sent-from-requires : tie.Need-sent-from-requires
+sent-from-requires c κs =
     let start = c .before .before .before .before .before .before .before .before .before .before in
     let read-header = c .before .before .before .before .before .before .before .before .read-header in
     let piece-at = c .before .before .before .before .piece-at in
@@ -69,7 +69,7 @@ returns-4 c =
     let piece-at = if2 .before .before in
     let if1 = piece-at .before .before in
     let read-header = if1 .before .before in
-    c .message-from .ensures ∙ from-piece _ _ _ _ _ (read-header .read-header .ensures .0) (if1 .if1 .left) (piece-at .piece-at .ensures .0) (piece-fine (piece-at .piece-at
+    c .sent-from .ensures ∙ from-piece _ _ _ _ _ (read-header .read-header .ensures .0) (if1 .if1 .left) (piece-at .piece-at .ensures .0) (piece-fine (piece-at .piece-at
     .result) (not-false (piece-at .piece-at .result .fine)
     (if2 .if2 .left)) (c .before .if3 .left))
 
@@ -89,5 +89,5 @@ message-for-spec =
     sub-if3
     no-message-requires-3
     returns-3
-    message-from-requires
+    sent-from-requires
     returns-4)

@@ -68,25 +68,6 @@ slice-aggregate-put-hex-line-2 c = search needs
 put-hex-line-requires-2 : tie.Need-put-hex-line-requires-2
 put-hex-line-requires-2 c κs = search needs
 
-same-length : tie.Need-same-length
-same-length c =
-    let put-hex-line2 = c .before .before in
-    let put-number-line4 = put-hex-line2 .before .before .before .before .before in
-    let put-hex-line = put-number-line4 .before .before .before .before .before .before in
-    let put-number-line3 = put-hex-line .before .before .before .before .before in
-    let put-number-line2 = put-number-line3 .before .before .before .before .before in
-    let put-word-line = put-number-line2 .before .before .before .before .before in
-    let put-number-line = put-word-line .before .before .before .before .before .before in
-    let clock-number = put-number-line .before .before .before in
-    let qos-number = clock-number .before in
-    let type-number = qos-number .before in
-    let start = type-number .before .before .before .before in
-    wrote-length (message-wrote (start .args .msg) (start .args .topic .now) (start .args .payload .now) (clock-number .clock-number .ensures) (type-number .type-number .ensures)
-    (qos-number .qos-number .ensures .0)
-    (put-number-line .put-number-line .ensures) (put-word-line .put-word-line .ensures) (put-number-line2 .put-number-line2 .ensures) (put-number-line3 .put-number-line3 .ensures)
-    (put-hex-line .put-hex-line .ensures) (put-number-line4 .put-number-line4 .ensures) (put-hex-line2 .put-hex-line2
-    .ensures))
-
 returns : tie.Need-returns
 returns c =
     let put-hex-line2 = c .before .before in
@@ -104,6 +85,9 @@ returns c =
     .qos-number .ensures .0) (put-number-line .put-number-line
     .ensures) (put-word-line .put-word-line .ensures) (put-number-line2 .put-number-line2 .ensures) (put-number-line3 .put-number-line3 .ensures) (put-hex-line .put-hex-line
     .ensures) (put-number-line4 .put-number-line4 .ensures) (put-hex-line2 .put-hex-line2 .ensures)
+
+same-length : tie.Need-same-length
+same-length c = wrote-length (returns c)
 
 pub put-message-spec : {M : Type 1} → statement M
 put-message-spec =

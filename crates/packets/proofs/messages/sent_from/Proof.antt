@@ -1,10 +1,10 @@
--- `packets::messages::message_from` meets its contract. Assumes nothing.
+-- `packets::messages::sent_from` meets its contract. Assumes nothing.
 use mathlib.Core.Path.{_≡_}
 use Prim.Native.Nat.{ℕ, min}
 use native.Mathlib.Omega.{arith}
 use borrow.Author.Needs.{needs}
-use Rattle.packets.proofs.messages.message_from.Statement.{statement}
-use Rattle.packets.proofs.messages.message_from.Tie as tie
+use Rattle.packets.proofs.messages.sent_from.Statement.{statement}
+use Rattle.packets.proofs.messages.sent_from.Tie as tie
 
 -- a number, cut there
 up-to : (most size : ℕ) {n : ℕ} → n ≡ min size most → n ≡ min size most
@@ -83,8 +83,8 @@ returns c =
     let at-most = type-at .before .before in
     rw (← type-at .type-at .ensures, ← qos-at .qos-at .ensures, ← up-to 256 _ (at-most .at-most .ensures), ← up-to 65535 _ (at-most2 .at-most2 .ensures))
 
-pub message-from-spec : {M : Type 1} → statement M
-message-from-spec =
+pub sent-from-spec : {M : Type 1} → statement M
+sent-from-spec =
     tie.close
     (tie.spec
     add-base
