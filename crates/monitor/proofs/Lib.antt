@@ -3,6 +3,7 @@ pub mod Chosen
 pub mod Denied
 pub mod FoundLaws
 pub mod Four
+pub mod Light
 pub mod Link
 pub mod PlainLaws
 pub mod Prepared

@@ -4,6 +4,7 @@ pub mod Calls
 pub mod Chosen
 pub mod Gate
 pub mod Inspect
+pub mod Light
 pub mod Message
 pub mod Plan
 pub mod Prepared

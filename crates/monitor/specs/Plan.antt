@@ -29,11 +29,20 @@ use Rattle.monitor.specs.declared.message.MqttMessage.{MqttMessage}
 use Rattle.monitor.specs.declared.plan.Plan.{Plan}
 use Rattle.monitor.specs.declared.state.MqttMonitor.{MqttMonitor}
 
+-- a table that is not asked: no window, no bucket, no tracker
+abbrev pub notConnected : ConnectDecision
+notConnected = record { at = 16; entry = emptyWindow; storm = false }
+
+abbrev pub notLimited : RateDecision
+notLimited = record { at = 32; bucket = emptyBucket; result = Allowed }
+
+abbrev pub notFed : TrackerDecision
+notFed = record { at = 16; tracker = emptyTracker; alert = false }
+
 -- CONNECT: its window; other types ask none
 unfoldable pub seenOf : List ClientStormEntry → ℕ → ℕ → MqttMessage → List ℕ → ConnectDecision
 seenOf clients threshold window msg topic =
-    cond (eqb (typeNumber (msg .«packet_type»)) 1) (connect clients (clientHashes topic) (msg .«timestamp_us») threshold window)
-    (record { at = 16; entry = emptyWindow; storm = false })
+    cond (eqb (typeNumber (msg .«packet_type»)) 1) (connect clients (clientHashes topic) (msg .«timestamp_us») threshold window) notConnected
 
 -- the topic's identity where the gate asks the limiter or the tracker, none elsewhere
 unfoldable pub idFor : Gate → List ℕ → Id
@@ -42,12 +51,12 @@ idFor g topic = cond (ltb 0 (g .rate) || g .feeds) (idOf topic) emptyId
 -- the limiter, asked where the gate hands out a rate
 unfoldable pub spentOf : List RateBucket → ℕ → Id → ℕ → RateDecision
 spentOf buckets rate id t =
-    cond (ltb 0 rate) (decide buckets id rate t) (record { at = 32; bucket = emptyBucket; result = Allowed })
+    cond (ltb 0 rate) (decide buckets id rate t) notLimited
 
 -- the tracker, asked where the gate says that the message feeds it
 unfoldable pub fedOf : List EwmaTracker → Bool → Id → ℕ → ℕ → TrackerDecision
 fedOf trackers feeds id size t =
-    cond feeds (feed trackers id size t) (record { at = 16; tracker = emptyTracker; alert = false })
+    cond feeds (feed trackers id size t) notFed
 
 -- the kind by which the limiter denies: 5 without a token, 6 where a bucket was replaced
 abbrev pub limiterKind : RateCheckResult → ℕ

@@ -36,12 +36,9 @@ ghost use mathlib.Core.Path.{_≡_};
 ghost use lib.Dec.{eqb, ltb};
 ghost use lib.ListN.{replicate};
 ghost use Rattle.topics.specs.Payload.{payloadHash};
-ghost use Rattle.tables.specs.Buckets.{emptyBucket};
-ghost use Rattle.tables.specs.Trackers.{emptyTracker};
-ghost use Rattle.tables.specs.Windows.{emptyWindow};
-ghost use Rattle.tables.specs.declared.buckets.RateCheckResult.the-variants.{Allowed};
+ghost use Rattle.monitor.specs.Light.{lightPlan};
 ghost use Rattle.monitor.specs.State.{matcherOf};
-ghost use Rattle.monitor.specs.Plan.{seenOf, idFor, spentOf, fedOf, limiterKind, planFrom, planOf};
+ghost use Rattle.monitor.specs.Plan.{notConnected, notLimited, notFed, seenOf, idFor, spentOf, fedOf, limiterKind, planFrom, planOf};
 
 // What is to be stored where, and the message's result.
 pub struct Plan {
@@ -55,7 +52,7 @@ pub struct Plan {
 
 // No window is asked.
 fn not_connected() -> ConnectDecision
-    ensures { λ r. ⌜ r ≡ record { at = 16; entry = emptyWindow; storm = false } ⌝ }
+    ensures { λ r. ⌜ r ≡ notConnected ⌝ }
 {
     ConnectDecision {
         at: WINDOWS,
@@ -66,7 +63,7 @@ fn not_connected() -> ConnectDecision
 
 // The limiter is not asked.
 fn not_limited() -> RateDecision
-    ensures { λ r. ⌜ r ≡ record { at = 32; bucket = emptyBucket; result = Allowed } ⌝ }
+    ensures { λ r. ⌜ r ≡ notLimited ⌝ }
 {
     RateDecision {
         at: BUCKETS,
@@ -77,7 +74,7 @@ fn not_limited() -> RateDecision
 
 // The tracker is not fed.
 fn not_fed() -> TrackerDecision
-    ensures { λ r. ⌜ r ≡ record { at = 16; tracker = emptyTracker; alert = false } ⌝ }
+    ensures { λ r. ⌜ r ≡ notFed ⌝ }
 {
     TrackerDecision {
         at: TRACKERS,
@@ -235,6 +232,22 @@ pub fn plan_from(
         allowed: denial == 0,
         raised,
     }
+}
+
+// The plan of a message that is neither a CONNECT nor a Publish: no table is asked.
+pub fn plan_light(gate: Gate, msg: MqttMessage, payload: &[u8], next_id: u64, total: u64) -> Plan
+    ensures { λ r. ⌜ r ≡ lightPlan «next_id» total msg (now (payload .entry)) gate ⌝ }
+{
+    plan_from(
+        gate,
+        not_connected(),
+        not_limited(),
+        not_fed(),
+        msg,
+        payload,
+        next_id,
+        total,
+    )
 }
 
 // The plan of a message with its used topic and payload, under a state; `inspection::inspect` asks for it and does the stores.

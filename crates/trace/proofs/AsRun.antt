@@ -7,19 +7,17 @@ use mathlib.Core.List.{List, [], _∷_, _++_, append-assoc}
 use native.Mathlib.Omega.{arith}
 use lib.Dec.{eqb, leb}
 use lib.ListN.{length}
-use Rattle.laws.specs.Lists.{every}
 use Rattle.laws.proofs.Cases.{whichever}
 use Rattle.topics.specs.declared.matching.Matching.{Matching}
 use Rattle.topics.specs.declared.matching.Matching.the-variants.{Port}
-use Rattle.monitor.specs.Inspect.{applied, resultOf, doneWith}
+use Rattle.monitor.specs.Inspect.{applied, resultOf}
 use Rattle.monitor.specs.Prepared.{Prepared, made, rule}
-use Rattle.monitor.specs.Runs.{Call, Exact, shipped, afterBy, repliesBy, isInspected}
-use Rattle.monitor.specs.State.{wellFormed, matcherOf}
+use Rattle.monitor.specs.Runs.{Call, Exact, shipped, afterBy, repliesBy}
+use Rattle.monitor.specs.State.{wellFormed}
 use Rattle.monitor.specs.declared.inspection.Inspected.{Inspected}
 use Rattle.monitor.specs.declared.state.MqttMonitor.{MqttMonitor}
-use Rattle.monitor.proofs.state.KeptFormed.{applied-formed}
 use Rattle.monitor.proofs.Prepared.{prepared-sound}
-use Rattle.monitor.proofs.Replies.{exact-done}
+use Rattle.monitor.proofs.Replies.{AllExact, shipped-done, done-formed, run-inspected}
 use Rattle.trace.specs.AsRun.{recordsText, AsRun, ReadAlike}
 use Rattle.trace.specs.Groups.{messageAt}
 use Rattle.trace.specs.Record.{recordText, closingText}
@@ -31,11 +29,6 @@ use Rattle.trace.proofs.run.RunLaws.{sentAt}
 -- the loaded monitor is a fresh one with rules
 loaded-prepared : (matching : Matching) (s : List ℕ) → Prepared (loaded matching s .monitor)
 loaded-prepared matching s = loaded-holds Prepared matching (made matching) (λ m p action policy rate h. rule h p action policy rate) s
-
--- all calls of a list lend exactly what their messages use
-abbrev pub AllExact : List Call → Type 0
-AllExact [] = Unit
-AllExact (c ∷ cs) = Exact c × AllExact cs
 
 exact-at : (s : List ℕ) (at : ℕ) → Exact (sentAt s at)
 exact-at s at =
@@ -57,20 +50,6 @@ unfolding messagesOf
 messages-exact matching s =
     let l = loaded matching s in whichever (λ (x : Messages). AllExact (x .sent)) (eqb (l .number) 0) (from-exact (length s + 1) s (l .next) (l .line)) tt
 
-module _ (m : MqttMonitor) (c : Call) (w : wellFormed m ≡ true) (e : Exact c) where
-  -- `inspect` applies the plan
-  done : shipped m c ≡ doneWith m (planned m c)
-  done = exact-done m c w e (matcherOf m)
-
-  formed : wellFormed (applied m (planned m c)) ≡ true
-  formed = applied-formed (matcherOf m) m (c .msg) (c .topic) (c .payload) w
-
--- none of the calls is refused
-run-inspected : (cs : List Call) (m : MqttMonitor) → wellFormed m ≡ true → AllExact cs → every isInspected (repliesBy shipped m cs) ≡ true
-unfolding every repliesBy
-run-inspected [] m w e = refl
-run-inspected (c ∷ cs) m w e = rw (done m c w (e .0)) (run-inspected cs (applied m (planned m c)) (formed m c w (e .0)) (e .1))
-
 -- what is printed of some messages from a state on
 run-text : (cs : List Call) (m : MqttMonitor) (n number line : ℕ) → wellFormed m ≡ true → AllExact cs
     → textFrom m n cs number line
@@ -80,7 +59,7 @@ unfolding textFrom recordsText repliesBy afterBy
 run-text [] m n number line w e = refl
 run-text (c ∷ cs) m n number line w e =
     let next : MqttMonitor = applied m (planned m c) in
-    let r = run-text cs next (n + 1) number line (formed m c w (e .0)) (e .1) in
+    let r = run-text cs next (n + 1) number line (done-formed m c w (e .0)) (e .1) in
     let first : List ℕ = recordText n (resultOf (planned m c)) in
     let others : List ℕ = recordsText (n + 1) (repliesBy shipped next cs) in
     let last : List ℕ = closingText number line (afterBy shipped next cs .«total_inspected») (afterBy shipped next cs .«total_alerts») in
@@ -89,7 +68,7 @@ run-text (c ∷ cs) m n number line w e =
     (λ (i : Inspected).
     recordText n (i .result) ++ recordsText (n + 1) (repliesBy shipped (i .monitor) cs)
     ++ closingText number line (afterBy shipped (i .monitor) cs .«total_inspected») (afterBy shipped (i .monitor) cs .«total_alerts»))
-    (sym (done m c w (e .0)))
+    (sym (shipped-done m c w (e .0)))
 
 pub as-run : (matching : Matching) (s : List ℕ) → AsRun matching s
 unfolding traceText

@@ -1,3 +1,3 @@
 pub mod AsRun
 pub mod Bound
-mod PlanBounds
+pub mod PlanBounds
