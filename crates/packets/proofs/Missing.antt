@@ -46,7 +46,7 @@ module _ (s t : List ℕ) where
       (λ e _. rw (same-byte 1 h1, a, same-byte 2 h2, b, same-byte 3 h3, d, same-byte 4 (there s 4 (ltb-false _ _ e)), e)))))
 
   -- a body that is there
-  same-part : (from to : ℕ) → from ≤ to → to ≤ length s → part (s ++ t) from to ≡ part s from to
+  pub same-part : (from to : ℕ) → from ≤ to → to ≤ length s → part (s ++ t) from to ≡ part s from to
   same-part from to h g =
       ap (λ (r : List ℕ). take (to - from) r) (drop-append-le from s t (omega arith))
       ∙ take-append-le (to - from) (drop from s) t (omega (arith, length-drop from s))

@@ -3,7 +3,7 @@
 use mathlib.Core.Bool.{Bool, true, false, _&&_}
 use mathlib.Core.List.{List, [], _∷_, map}
 use mathlib.Core.Path.{_≡_, refl, sym, _∙_, ap}
-use Prim.Native.Nat.{ℕ, zero, suc, _+_, _-_, _≤_, _<_}
+use Prim.Native.Nat.{ℕ, zero, suc, _+_, _-_, _*_, _≤_, _<_}
 use native.Mathlib.Omega.{arith}
 use lib.Dec.{eqb, ltb, leb}
 use lib.ListN.{length, drop, length-map, length-take}
@@ -11,6 +11,7 @@ use borrow.Author.Tests.{eqb-true, ltb-true, ltb-false}
 use Rattle.laws.specs.Lists.{every, some}
 use Rattle.laws.proofs.Cases.{by, choose, clash}
 use Rattle.laws.proofs.Tests.{both, either, neither}
+use Rattle.monitor.specs.Message.{typeNumber, typeAt}
 use Rattle.packets.specs.Bodies.{isList, bodyBuilt, pieceAt, firstStep, piecesOf}
 use Rattle.packets.specs.Fields.{begin, numberField}
 use Rattle.packets.specs.Filters.{listBuilt, filterAt, filtersOf, walk}
@@ -19,13 +20,13 @@ use Rattle.packets.specs.Messages.{sentFrom, messageFrom, messageFor, me
 use Rattle.packets.specs.Packet.{packetAt}
 use Rattle.packets.specs.Piece.{goodPiece, isLong}
 use Rattle.packets.specs.Publish.{identified}
-use Rattle.packets.specs.Steps.{stepped, Steps}
+use Rattle.packets.specs.Steps.{stepped, isListed, Steps}
 use Rattle.packets.specs.declared.messages.PacketMessage.{PacketMessage}
 use Rattle.packets.specs.declared.piece.Piece.{Piece}
-use Rattle.packets.proofs.filters.WalkLaws.{filter-further, left-turn, left-last}
+use Rattle.packets.proofs.filters.WalkLaws.{filter-in, filter-further, left-turn, left-last}
 use Rattle.packets.proofs.header.LengthLaws.{length-small}
 use Rattle.packets.proofs.messages.MessageLaws.{piece-fine}
-use Rattle.packets.proofs.packet.AcceptedLaws.{Accepted, accepted, messages-are}
+use Rattle.packets.proofs.packet.AcceptedLaws.{Accepted, accepted, length-is, messages-are, header-there, length-some}
 
 -- a piece that was read and is not long
 abbrev Fit : Piece → Type 0
@@ -54,6 +55,30 @@ list-piece : (kind flags : ℕ) (b : List ℕ) (step : ℕ) → isList kind ≡ 
 unfolding pieceAt
 list-piece kind flags b step l =
     either (eqb kind 8) (eqb kind 10) l (λ e. let k : kind ≡ 8 = eqb-true _ _ e in rw k) (λ e. let k : kind ≡ 10 = eqb-true _ _ e in rw k)
+
+-- filters that are good take two bytes each
+walk-few : (subscribe : Bool) (b : List ℕ) (k at : ℕ) → every (goodPiece b) (walk (filterAt subscribe b) k (length b) at) ≡ true
+    → length (walk (filterAt subscribe b) k (length b) at) * 2 ≤ length b - at
+unfolding walk every goodPiece
+walk-few subscribe b zero at = λ _. omega arith
+walk-few subscribe b (suc k) at =
+    let read : ℕ → Piece = filterAt subscribe b in
+    let i = filter-in subscribe b at in
+    choose (λ (ps : List Piece). every (goodPiece b) ps ≡ true → length ps * 2 ≤ length b - at) (leb (length b) at) (λ _ _. omega arith)
+    (λ _.
+    choose (λ (ps : List Piece). every (goodPiece b) (read at ∷ ps) ≡ true → length (read at ∷ ps) * 2 ≤ length b - at) (read at .fine)
+    (λ u g. let h = walk-few subscribe b k (read at .next) (both (goodPiece b (read at)) _ g .1) in omega (arith, i .further u, i .lies .after, h))
+    (λ u g. clash (both (read at .fine) _ (both (goodPiece b (read at)) true g .0) .0) u))
+
+-- the type of a list, as a message has it
+listed-back : (kind : ℕ) → isList kind ≡ true → isList (typeNumber (typeAt kind)) ≡ true
+listed-back kind l =
+    either (eqb kind 8) (eqb kind 10) l (λ e. let k : kind ≡ 8 = eqb-true _ _ e in rw k) (λ e. let k : kind ≡ 10 = eqb-true _ _ e in rw k)
+
+each-listed : (f : Piece → PacketMessage) → ((p : Piece) → isListed (f p) ≡ true) → (ps : List Piece) → every isListed (map f ps) ≡ true
+unfolding every
+each-listed f z [] = refl
+each-listed f z (p ∷ ps) = rw (z p) (each-listed f z ps)
 
 module _ (s : List ℕ) (place «now_us» : ℕ) (ok : Bool) where
   abbrev bytes : List ℕ
@@ -138,6 +163,24 @@ module _ (s : List ℕ) (place «now_us» : ℕ) (ok : Bool) where
     unfolding piecesOf
     some-one = rw (messages-are bytes e .0) (by (isList kind) (λ l. rw l (has-one l)) (λ l. rw l (omega arith)))
 
+    -- no packet has more messages than half of its bytes
+    at-most : packetAt s place .messages * 2 ≤ packetAt s place .length
+    unfolding piecesOf
+    at-most =
+        let h = length-some bytes 1 (header-there bytes (a .header) .0) in
+        let b : length body ≤ lengthAt bytes 1 .value = omega (arith, length-take (sizeOf bytes - bodyFrom bytes) (drop (bodyFrom bytes) bytes)) in
+        rw (messages-are bytes e .0, length-is bytes e)
+        (by (isList kind) (λ l. rw l (omega (arith, walk-few (eqb kind 8) body (length body + 1) 2 (rw l at (a .good)), b, h))) (λ l. rw l (omega (arith, h))))
+
+    -- of any but a list there is one
+    only-one : isList kind ≡ false → packetAt s place .messages ≡ 1
+    unfolding piecesOf
+    only-one l = rw (messages-are bytes e .0, l)
+
+    several : (packetAt s place .messages ≡ 1 → ⊥) → every isListed (messagesAt s place «now_us» ok) ≡ true
+    unfolding messagesOf
+    several n = by (isList kind) (λ l. each-listed sent (λ p. listed-back kind l) pieces) (λ l. absurd (n (only-one l)))
+
 -- none of a packet's messages is refused
 each-good : (f : Piece → PacketMessage) → ((p : Piece) → f p .number ≡ 0) → (ps : List Piece) → every (λ m. eqb (m .number) 0) (map f ps) ≡ true
 unfolding every
@@ -148,29 +191,18 @@ pub all-good : (s : List ℕ) (place «now_us» : ℕ) (ok : Bool) → every (λ
 unfolding messagesOf
 all-good s place «now_us» ok = each-good (sent s place «now_us» ok) (λ p. refl) (piecesOf (typeOf (drop place s)) (flagsOf (drop place s)) (bodyIn (drop place s)))
 
--- a walk is no longer than it may be
-walk-long : (read : ℕ → Piece) (k end at : ℕ) → length (walk read k end at) ≤ k
-unfolding walk
-walk-long read zero end at = omega arith
-walk-long read (suc k) end at =
-    choose (λ (ps : List Piece). length ps ≤ suc k) (leb end at) (λ _. omega arith)
-    (λ _. choose (λ (ps : List Piece). length (read at ∷ ps) ≤ suc k) (read at .fine) (λ _. let h = walk-long read k end (read at .next) in omega arith) (λ _. omega arith))
-
--- so no packet has more messages than its body has bytes, but for one
-pub few : (s : List ℕ) (place : ℕ) → packetAt s place .number ≡ 0 → packetAt s place .messages ≤ 268435456
-unfolding piecesOf
-few s place e =
-    let t : List ℕ = drop place s in
-    let l = length-small t 1 in
-    let b : length (bodyIn t) ≤ lengthAt t 1 .value = omega (arith, length-take (sizeOf t - bodyFrom t) (drop (bodyFrom t) t)) in
-    rw (messages-are t e .0)
-    (choose (λ (ps : List Piece). length ps ≤ 268435456) (isList (typeOf t))
-    (λ _. omega (arith, walk-long (filterAt (eqb (typeOf t) 8) (bodyIn t)) (length (bodyIn t) + 1) (length (bodyIn t)) 2, b, l .value)) (λ _. omega arith))
-
 pub steps : Steps
 steps =
     record {
       inOrder = inOrder;
       counted = counted;
       some = λ s place e. some-one s place 0 true e;
+      few = λ s place e. at-most s place 0 true e;
+      several = several;
     }
+
+-- nor does one have more than this
+pub limited : (s : List ℕ) (place : ℕ) → packetAt s place .number ≡ 0 → packetAt s place .messages ≤ 134217730
+limited s place e =
+    let l = length-small (drop place s) 1 in
+    omega (arith, steps .few s place e, length-is (drop place s) e, l .bytes, l .value)

@@ -1,1 +1,3 @@
+pub mod LeftLaws
 pub mod MessageLaws
+pub mod MovedLaws

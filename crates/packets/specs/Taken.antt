@@ -1,15 +1,16 @@
 -- What is claimed of every message that `message_at` hands out, at whatever place and step it is asked: it lies within its packet, and `inspect` takes it.
 -- Assumes nothing.
 use mathlib.Core.Bool.{Bool}
-use mathlib.Core.List.{List}
+use mathlib.Core.List.{List, map}
 use mathlib.Core.Path.{_≡_}
 use Prim.Native.Nat.{ℕ, _+_, _≤_}
 use lib.ListN.{length, drop}
 use Rattle.lines.specs.Span.{part}
 use Rattle.monitor.specs.Inspect.{inspectRefusal}
+use Rattle.monitor.specs.Runs.{Call}
 use Rattle.monitor.specs.declared.state.MqttMonitor.{MqttMonitor}
 use Rattle.packets.specs.Header.{bodyFrom, sizeOf}
-use Rattle.packets.specs.Messages.{messageAt}
+use Rattle.packets.specs.Messages.{messageAt, messagesAt}
 use Rattle.packets.specs.declared.messages.PacketMessage.{PacketMessage}
 
 -- the bytes of its topic, and of the inspected part of its payload
@@ -18,6 +19,14 @@ topicBytes s m = part s (m .«topic_from») (m .«topic_to»)
 
 abbrev pub payloadBytes : List ℕ → PacketMessage → List ℕ
 payloadBytes s m = part s (m .«payload_from») (m .«payload_to»)
+
+-- as a call of `inspect`: the message, and exactly the bytes that it uses
+abbrev pub callOf : List ℕ → PacketMessage → Call
+callOf s m = record { msg = m .msg; topic = topicBytes s m; payload = payloadBytes s m }
+
+-- the messages of the packet at a place as such calls
+abbrev pub callsAt : List ℕ → ℕ → ℕ → Bool → List Call
+callsAt s place «now_us» ok = map (callOf s) (messagesAt s place «now_us» ok)
 
 -- a message lies within the packet at a place, behind its header, and says how long its topic and the inspected part of its payload are; its size is one that a trace can say
 pub record Within (s : List ℕ) (place : ℕ) (m : PacketMessage) : Type 0 where

@@ -34,15 +34,16 @@ use Rattle.trace.proofs.run.RunLaws.{left-turn}
 use Rattle.packets.specs.Messages as packet
 use Rattle.packets.specs.Packet.{packetAt}
 use Rattle.packets.specs.Steps.{stepped}
-use Rattle.packets.specs.Taken.{topicBytes, payloadBytes}
+use Rattle.packets.specs.Taken.{topicBytes, payloadBytes, callOf}
 use Rattle.packets.specs.declared.messages.PacketMessage.{PacketMessage}
 use Rattle.packets.proofs.Steps.{steps}
 use Rattle.packets.proofs.Taken.{taken}
+use Rattle.packets.proofs.messages.LeftLaws.{left, Good, good-both, first-good}
 use Rattle.packets_text.specs.MessageText.{clockNumber, messageLines, messageText}
 use Rattle.packets_text.specs.PacketText.{textOf, textsOf}
-use Rattle.packets_text.specs.ReadBack.{IsBytes, Writable, Reads, callOf, sentAll, readFrom, ReadBack}
+use Rattle.packets_text.specs.ReadBack.{IsBytes, Writable, Reads, sentAll, readFrom, ReadBack}
 use Rattle.packets_text.proofs.message.TextLaws.{type-back, lines-short}
-use Rattle.packets_text.proofs.written.WrittenLaws.{left, Good, good-both, first-text, first-good}
+use Rattle.packets_text.proofs.written.WrittenLaws.{first-text}
 
 -- a place in `ok|bad` names the verdict
 clock-back : (ok : Bool) → (eqb (clockNumber ok) 0 ≡ ok) × (clockNumber ok < 2)

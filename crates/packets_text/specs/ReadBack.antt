@@ -1,17 +1,15 @@
 -- What is claimed of the lines: the trace's reader reads them back. So the lines of a capture behind an opening are a trace, and its messages are those of the packets.
 -- Assumes nothing.
 use mathlib.Core.Bool.{Bool}
-use mathlib.Core.List.{List, [], _∷_, map}
+use mathlib.Core.List.{List, [], _∷_}
 use mathlib.Core.Path.{_≡_}
 use Prim.Native.Nat.{ℕ, _+_, _*_, _≤_, _<_}
 use lib.ListN.{length, getD}
 use Rattle.forms.specs.Stands.{Stands}
 use Rattle.monitor.specs.Runs.{Call}
 use Rattle.monitor.specs.declared.message.MqttMessage.{MqttMessage}
-use Rattle.packets.specs.Messages.{messagesAt}
 use Rattle.packets.specs.Packet.{packetAt}
-use Rattle.packets.specs.Taken.{topicBytes, payloadBytes}
-use Rattle.packets.specs.declared.messages.PacketMessage.{PacketMessage}
+use Rattle.packets.specs.Taken.{callsAt}
 use Rattle.trace.specs.Groups.{messageAt, topicIn, payloadIn}
 use Rattle.trace.specs.Trace.{Messages, sentFirst, messagesFrom}
 use Rattle.packets_text.specs.MessageText.{messageText}
@@ -38,10 +36,6 @@ pub record Reads (s : List ℕ) (at r : ℕ) (m : MqttMessage) (t p : List ℕ) 
   pub topic : topicIn s (messageAt s at) ≡ t
   pub payload : payloadIn s (messageAt s at) ≡ p
 
--- a packet's message as a call of `inspect`
-abbrev pub callOf : List ℕ → PacketMessage → Call
-callOf bytes m = record { msg = m .msg; topic = topicBytes bytes m; payload = payloadBytes bytes m }
-
 -- calls before others
 unfoldable pub sentAll : List Call → Messages → Messages
 sentAll [] ms = ms
@@ -60,6 +54,6 @@ pub record ReadBack : Type 0 where
   pub packet :
       (bytes : List ℕ) (place «now_us» : ℕ) (ok : Bool) → IsBytes bytes → «now_us» ≤ 18446744073709551615 → packetAt bytes place .number ≡ 0
       → (s : List ℕ) (at r line : ℕ) → Stands s at (packetText bytes place «now_us» ok) r
-      → readFrom s at line ≡ sentAll (map (callOf bytes) (messagesAt bytes place «now_us» ok)) (readFrom s r (line + packetAt bytes place .messages * 7))
+      → readFrom s at line ≡ sentAll (callsAt bytes place «now_us» ok) (readFrom s r (line + packetAt bytes place .messages * 7))
   -- the lines of a message are not longer
   pub short : (msg : MqttMessage) (topic payload : List ℕ) → Writable msg topic payload → length (messageText msg topic payload) ≤ 843

@@ -50,7 +50,7 @@ module _ (s : List ℕ) (e : packetOf s .number ≡ 0) where
       record { header = h; built = b .0; good = b .1; short = b .2 }
 
   -- its length
-  length-is : packetOf s .length ≡ sizeOf s
+  pub length-is : packetOf s .length ≡ sizeOf s
   unfolding packetOf
   length-is = let r : packetRefusal s ≡ 0 = sym (packet-number s) ∙ e in rw r refl
 
@@ -66,7 +66,7 @@ header-there s e =
     (λ o. (o, by-le (sizeOf s) (length s) (λ h. h) (λ h. absurd (omega (arith, short-is s o h, e)))))
 
 -- a length field that ends has a byte
-length-some : (s : List ℕ) (at : ℕ) → lengthAt s at .over ≡ false → 1 ≤ lengthAt s at .bytes
+pub length-some : (s : List ℕ) (at : ℕ) → lengthAt s at .over ≡ false → 1 ≤ lengthAt s at .bytes
 unfolding lengthAt
 length-some s at =
     let P : Length → Type 0 = λ (l : Length). l .over ≡ false → 1 ≤ l .bytes in

@@ -4,14 +4,14 @@ use mathlib.Core.List.{List, []}
 use mathlib.Core.Path.{_≡_, refl, sym, _∙_}
 use Prim.Native.Nat.{ℕ, _≤_}
 use native.Mathlib.Omega.{arith}
-use lib.Dec.{eqb}
-use lib.ListN.{length, drop-of-length-le}
+use lib.Dec.{eqb, ltb}
+use lib.ListN.{length, drop, drop-of-length-le}
 use borrow.Author.Tests.{eqb-true, ne-eqb}
-use Rattle.laws.proofs.Cases.{choose}
+use Rattle.laws.proofs.Cases.{choose, whichever}
 use Rattle.laws.specs.Lists.{every, some}
 use Rattle.lines.specs.Span.{part}
 use Rattle.packets.specs.Bodies.{bodyBuilt, piecesOf, firstStep, lookedAt}
-use Rattle.packets.specs.Header.{lengthAt, typeOf, flagsOf, bodyIn, headerRefusal, headerOf}
+use Rattle.packets.specs.Header.{lengthAt, typeOf, flagsOf, sizeOf, bodyIn, headerRefusal, headerOf}
 use Rattle.packets.specs.Packet.{bodyRefusal, packetRefusal, refusedPacket, packetOf, packetAt}
 use Rattle.packets.specs.Piece.{goodPiece, isLong}
 use Rattle.packets.specs.declared.bodies.Looked.{Looked}
@@ -39,14 +39,15 @@ module _ (kind flags : ℕ) (b : List ℕ) where
       unfolding bodyRefusal
       body-fine v = rw (t, rw g at u, rw g at v)
 
--- a body is not 31
-pub body-not-31 : (kind flags : ℕ) (b : List ℕ) → bodyRefusal kind flags b ≡ 31 → ⊥
+-- a body is refused by 32 or 33, or not
+body-known : (P : ℕ → Type 0) → P 0 → P 32 → P 33 → (kind flags : ℕ) (b : List ℕ) → P (bodyRefusal kind flags b)
 unfolding bodyRefusal
-body-not-31 kind flags b =
-    let P : ℕ → Type 0 = λ (n : ℕ). n ≡ 31 → ⊥ in
-    choose P (bodyBuilt kind flags b && every (goodPiece b) (piecesOf kind flags b))
-    (λ _. choose P (some isLong (piecesOf kind flags b)) (λ _ e. omega arith) (λ _ e. omega arith))
-    (λ _ e. omega arith)
+body-known P none breach long kind flags b =
+    whichever P (bodyBuilt kind flags b && every (goodPiece b) (piecesOf kind flags b)) (whichever P (some isLong (piecesOf kind flags b)) long none) breach
+
+-- so it is not 31
+pub body-not-31 : (kind flags : ℕ) (b : List ℕ) → bodyRefusal kind flags b ≡ 31 → ⊥
+body-not-31 = body-known (λ n. n ≡ 31 → ⊥) (λ e. omega arith) (λ e. omega arith) (λ e. omega arith)
 
 -- each way through a packet
 module _ (s : List ℕ) where
@@ -95,3 +96,12 @@ header-none = refl
 
 pub packet-none : (s : List ℕ) {place : ℕ} → length s ≤ place → refusedPacket 31 ≡ packetAt s place
 packet-none s h = rw (drop-of-length-le s h) (refused-by [] (header-first [] header-none (λ e. absurd (omega arith))) (λ e. absurd (omega arith)))
+
+-- a packet's number is one of these
+pub number-known : (P : ℕ → Type 0) → P 0 → P 31 → P 32 → P 33 → (s : List ℕ) (place : ℕ) → P (packetAt s place .number)
+unfolding packetRefusal headerRefusal
+number-known P none missing breach long s place =
+    let t : List ℕ = drop place s in
+    rw (packet-number t)
+    (whichever P (eqb (headerRefusal t) 0) (body-known P none breach long (typeOf t) (flagsOf t) (bodyIn t))
+    (whichever P (lengthAt t 1 .over) breach (whichever P (ltb (length t) (sizeOf t)) missing none)))

@@ -7,8 +7,9 @@ use native.Mathlib.Omega.{arith}
 use lib.ListN.{length}
 use Rattle.lines.specs.Wrote.{Wrote}
 use Rattle.lines.proofs.put.WroteLaws.{wrote-none, wrote-then, wrote-length}
+use Rattle.packets.proofs.messages.LeftLaws.{left, Good, good-now, good-next, first-good}
 use Rattle.packets_text.specs.PacketText.{textsOf}
-use Rattle.packets_text.proofs.written.WrittenLaws.{left, Good, good-now, good-next, turn-text, none-text, first-text, first-good}
+use Rattle.packets_text.proofs.written.WrittenLaws.{turn-text, none-text, first-text}
 use Rattle.packets_text.proofs.written.put_texts.Statement.{statement}
 use Rattle.packets_text.proofs.written.put_texts.Tie as tie
 

@@ -5,15 +5,16 @@ use Prim.Native.Nat.{_+_, _*_, _≤_}
 use mathlib.Core.Path.{_≡_, ap}
 use native.Mathlib.Omega.{arith}
 use lib.ListN.{length}
+use Rattle.packets.proofs.messages.LeftLaws.{left, Good, good-now, good-next, first-good, first-few}
 use Rattle.packets_text.specs.PacketText.{textsOf}
-use Rattle.packets_text.proofs.written.WrittenLaws.{left, Good, good-now, good-next, turn-length, none-text, first-text, first-good, first-few}
+use Rattle.packets_text.proofs.written.WrittenLaws.{turn-length, none-text, first-text}
 use Rattle.packets_text.proofs.written.texts_len.Statement.{statement}
 use Rattle.packets_text.proofs.written.texts_len.Tie as tie
 
 abbrev Inv-loop : tie.InvT-loop
 Inv-loop bytes place now-us ok left₀ step₀ n₀ k step n =
     (n + length (textsOf bytes (left bytes place now-us ok k step)) ≡ length (textsOf bytes (left bytes place now-us ok left₀ step₀)))
-    × Good bytes place now-us ok k step × (n + k * 843 ≤ left₀ * 843) × (left₀ ≤ 268435456)
+    × Good bytes place now-us ok k step × (n + k * 843 ≤ left₀ * 843) × (left₀ ≤ 134217730)
 
 abbrev μ-loop : tie.MeasureT-loop
 μ-loop bytes place now-us ok left₀ step₀ n₀ k step n = k
