@@ -1,0 +1,3 @@
+pub mod Enough
+pub mod Joined
+pub mod Singly

@@ -1,0 +1,2 @@
+pub mod LightLaws
+mod LoopLaws

@@ -1,0 +1,5 @@
+pub mod Enough
+pub mod Joined
+pub mod Queue
+pub mod Several
+pub mod Singly
