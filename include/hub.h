@@ -1,9 +1,9 @@
 /* hub.h: the hub's message monitor for callers in C11 and C++11. Link target/staticlib/libhub.a, which `rt staticlib
  * hub` proves and writes; for hub_settings libboot.a, which `rt staticlib boot` writes; for hub_packet and
- * hub_packet_lines libjack.a, which `rt staticlib jack` writes; and for the calls whose names begin with hub_standing,
- * which are for a support desk and not for the part, libdesk.a, which `rt staticlib desk` writes. Each is for x86-64 Linux
- * (ELF, System V calls), as position-independent code; besides the functions below it needs memcpy and memset. bin/header
- * holds this file and the archives to each other.
+ * hub_packet_lines libjack.a, which `rt staticlib jack` writes; for hub_queue libwake.a, which `rt staticlib wake` writes;
+ * and for the calls whose names begin with hub_standing, which are for a support desk and not for the part, libdesk.a,
+ * which `rt staticlib desk` writes. Each is for x86-64 Linux (ELF, System V calls), as position-independent code; besides
+ * the functions below it needs memcpy and memset. bin/header holds this file and the archives to each other.
  *
  * The caller's duties, for every function here:
  * - a pointer is not null, also where the length beside it is 0;
@@ -11,16 +11,16 @@
  * - the bytes that are read are initialised, and nothing changes them during the call; `out` need not be initialised;
  * - what a function writes to overlaps no other argument, and nothing else reads or writes it during the call;
  * - there is room on the stack: 96 KiB for a call whose name begins with hub_standing, 48 KiB for one whose name begins
- *   with hub_trace, 16 KiB for hub_settings, 1 KiB for any other (see below).
+ *   with hub_trace and for hub_queue, 16 KiB for hub_settings, 1 KiB for any other (see below).
  *
  * Each call then returns, allocates nothing, keeps no pointer and has no state: equal arguments give equal answers, on
  * any thread. A bool is 0 or 1.
  *
  * Stack, in bytes below the caller, by measurement (rattle-kit-5b, x86-64; `bin/measure stack` measures again): those of
- * the standing reach 82,392, those of traces 30,258, hub_settings 14,658, hub_packet_lines 688, hub_packet 336, every
- * other call at most 256, less not being told apart. Whole, cut and damaged texts and packets were tried; by the
- * disassembly no function of libhub.a, libboot.a or libjack.a calls itself, no frame grows with its input, and the frames
- * add up to no more. libdesk.a was measured alone. */
+ * the standing reach 82,392, hub_queue 42,328, those of traces 30,258, hub_settings 14,658, hub_packet_lines 688,
+ * hub_packet 336, every other call at most 256, less not being told apart. Whole, cut and damaged texts and packets were
+ * tried; by the disassembly no function of libhub.a, libboot.a, libjack.a or libwake.a calls itself, no frame grows with
+ * its input, and the frames add up to no more. libdesk.a was measured alone. */
 #ifndef HUB_H
 #define HUB_H
 
@@ -50,6 +50,10 @@ _Static_assert(sizeof(size_t) == 8, "libhub.a is for x86-64: a length has 64 bit
 /* The seven lines of a message are no longer (proved). */
 #define HUB_MESSAGE_LONGEST 843
 
+/* Nor is a message's record, from its line `n=` on. So an `out` of so many bytes for each message of the packets, or of
+ * 264 bytes for each byte of them, never meets 28 in hub_queue (both proved). */
+#define HUB_RECORD_LONGEST 528
+
 /* The two hashes that tell clients apart. */
 struct HubClientHashes {
     uint32_t hash;  /* FNV-1a */
@@ -76,6 +80,16 @@ struct HubPacketLines {
     uint32_t number; /* 0, or the number of the refusal */
     uint64_t line;   /* always 0: no line was read */
     size_t length;   /* how many bytes were written; 0 with any refusal */
+};
+
+/* How a run of packets ended. */
+struct HubQueue {
+    uint32_t number;    /* 0 for a whole run; else the number that ended it, or that refused the trace */
+    size_t place;       /* where the packet begins at which it ended, or the end of the packets; 0 for a refused trace */
+    uint64_t done;      /* how many messages were inspected, all of them of packets before that place */
+    size_t length;      /* how many bytes their records have */
+    uint64_t inspected; /* the monitor's count of messages afterwards, those of the trace among them */
+    uint64_t total;     /* its count of alerts, likewise */
 };
 
 /* How settings were written back. */
@@ -171,6 +185,22 @@ struct HubPacket hub_packet(const uint8_t *bytes, size_t bytes_len, size_t place
  * with 28; with any refusal nothing is written. A message has at most HUB_MESSAGE_LONGEST bytes of lines (proved). */
 struct HubPacketLines hub_packet_lines(const uint8_t *bytes, size_t bytes_len, size_t place, uint64_t at, bool clock_ok,
                                        uint8_t *out, size_t out_len);
+
+/* A run of packets in one call, as a network task has them when it wakes: inspects the messages of the packets, in their
+ * order, on the monitor that a trace's messages leave, whose rules match as hub_topic_matches does. All have the time `at`
+ * in microseconds and the clock's verdict. The records go to the front of `out`: for each message the lines that hub_trace
+ * writes for it, but that `n=` counts from 1 in each call. The rest of `out` is left as it was. Records and counts are
+ * those of inspecting the messages singly (proved).
+ *   The first packet that is refused ends the run: with the number that hub_packet has for it, or else with 28, where the
+ * records of all its messages do not fit behind those before. Nothing of that packet is inspected or written; the messages
+ * before it are done, and their records stay. Call again with the packets from `place` on, after 28 with more room, after
+ * 31 with the bytes that were missing, and with the messages that were done behind the trace, as hub_packet_lines writes
+ * them: it goes on where the run ended. No state is kept between calls, and the trace stands for it.
+ *   Refuses the trace, before anything of the packets is looked at, with 9, 21 to 27 and 36: the counts are then those of
+ * the messages before its bad line, place, done and length are 0, and nothing is written. The trace's own answer is not
+ * written here. An opening alone is a whole trace. */
+struct HubQueue hub_queue(const uint8_t *trace, size_t trace_len, uint64_t at, bool clock_ok, const uint8_t *packets,
+                          size_t packets_len, uint8_t *out, size_t out_len);
 
 /* Where the limit stands after a whole trace: the lines of docs/STANDING.md, which follow the answer of hub_trace, or of
  * hub_trace_standard, where they are asked for. They go to the front of `out`, and the rest of it is left as it was.

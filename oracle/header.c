@@ -280,6 +280,105 @@ static void lining(void) {
     holds("as a trace has them", memcmp(room, two, sizeof two - 1) == 0 && untouched(sizeof two - 1));
 }
 
+/* A trace with one message of `m/a`, and the records of the four packets above, half a second behind it: the PUBLISH is
+ * faster than its rate, and `+` is a broad filter. RECORDS_1 to RECORDS_4 is how far those of each packet reach. */
+#define OPENING "default=allow\nrules=1\npattern=6d2f2b\naction=allow\nqos=any\nrate=1\n"
+#define PASSED(n) "n=" n "\nallowed=1\nalerts=0\n"
+#define ALERTED(n, allowed, id, kind)                                                                                 \
+    "n=" n "\nallowed=" allowed "\nalerts=1\nid=" id "\nkind=" kind "\nseverity=2\n"                                  \
+    "hash=0000000000000000000000000000000000000000000000000000000000000000\n"
+static const char once[] = OPENING MESSAGE("1000000");
+static const char records[] = PASSED("1") ALERTED("2", "0", "1", "5") PASSED("3") ALERTED("4", "1", "2", "11") PASSED("5");
+enum { RECORDS_1 = 23, RECORDS_2 = 139, RECORDS_3 = 279, RECORDS_4 = 302 };
+
+/* The run of some packets behind that trace, into so much of the room. */
+static struct HubQueue woken(const uint8_t *bytes, size_t bytes_len, size_t room_len) {
+    memset(room, 0xa5, sizeof room);
+    return hub_queue(BYTES(once), 1500000, true, bytes, bytes_len, room, room_len);
+}
+
+/* How it ended, with the records up to a length and the rest of the room as it was. */
+static bool ran(struct HubQueue end, uint32_t number, size_t place, uint64_t done, size_t length) {
+    return end.number == number && end.place == place && end.done == done && end.length == length &&
+           memcmp(room, records, length) == 0 && untouched(length);
+}
+
+static bool counts(struct HubQueue end, uint64_t inspected, uint64_t total) {
+    return end.inspected == inspected && end.total == total;
+}
+
+/* Runs that are whole: into any room that is enough, and of no packets. */
+static void waking(void) {
+    struct HubQueue end = woken(BYTES(packets), sizeof room);
+    holds("a whole run", ran(end, 0, PACKETS_END, 5, RECORDS_4));
+    holds("its counts", counts(end, 6, 2));
+    holds("an exact fit", ran(woken(BYTES(packets), RECORDS_4), 0, PACKETS_END, 5, RECORDS_4));
+    holds("room by the record", sizeof records - 1 == RECORDS_4 &&
+                                    ran(woken(BYTES(packets), 5 * HUB_RECORD_LONGEST), 0, PACKETS_END, 5, RECORDS_4));
+    end = woken(BYTES(""), 0);
+    holds("a run of no packets", ran(end, 0, 0, 0, 0));
+    holds("its counts", counts(end, 1, 0));
+    end = hub_queue(BYTES("default=block\nrules=0\n"), UINT64_MAX, false, BYTES(PINGREQ), room, sizeof room);
+    holds("a run behind an opening alone", end.number == 0 && end.place == 2 && end.done == 1 && counts(end, 1, 1));
+}
+
+/* Runs that end at a packet: what stands before it is done. */
+static void waking_in_part(void) {
+    static const char behind[] = PUBLISH "\0\0" PUBLISH;
+    static uint8_t wide[13 + 5 + 129];
+    struct HubQueue end = woken(BYTES(packets), RECORDS_4 - 1);
+    holds("28 a byte short of the last packet's records", ran(end, 28, PINGREQ_AT, 4, RECORDS_3));
+    holds("the counts without it", counts(end, 5, 2));
+    end = woken(BYTES(packets), RECORDS_3 - 1);
+    holds("28 a byte short of two filters' records writes neither", ran(end, 28, SUBSCRIBE_AT, 2, RECORDS_2));
+    holds("and inspects neither", counts(end, 3, 1));
+    holds("both where they fit", ran(woken(BYTES(packets), RECORDS_3), 28, PINGREQ_AT, 4, RECORDS_3));
+    holds("28 where there is no room", ran(woken(BYTES(packets), 0), 28, 0, 0, 0));
+
+    end = woken(BYTES(packets) - 1, sizeof room);
+    holds("31 where the last byte is missing", ran(end, 31, PINGREQ_AT, 4, RECORDS_3));
+    holds("31 before 28", ran(woken(BYTES(packets) - 1, RECORDS_3), 31, PINGREQ_AT, 4, RECORDS_3));
+    memset(room, 0xa5, sizeof room);
+    end = hub_queue(BYTES(once), 1500000, true, BYTES(behind), room, sizeof room);
+    holds("32 for a packet of type 0, behind a PUBLISH", end.number == 32 && end.place == 13 && end.done == 1);
+    holds("whose record stays", end.length == RECORDS_2 - RECORDS_1 && untouched(end.length) && counts(end, 2, 1));
+    memset(wide, 'a', sizeof wide);
+    memcpy(wide, PUBLISH, 13);
+    memcpy(wide + 13, "\x30\x83\1\0\x81", 5);
+    end = woken(wide, sizeof wide, sizeof room);
+    holds("33 for a topic of 129 bytes, behind a PUBLISH", end.number == 33 && end.place == 13 && end.done == 1);
+}
+
+/* A call that goes on where another one ended: the messages that were done stand behind its trace, and `n=` counts anew. */
+static void waking_again(void) {
+    static const char later[] = PASSED("1") ALERTED("2", "1", "2", "11") PASSED("3");
+    static uint8_t trace[sizeof once + 2 * HUB_MESSAGE_LONGEST];
+    struct HubQueue end = woken(BYTES(packets), RECORDS_2);
+    size_t length = sizeof once - 1;
+    holds("28 behind two packets", ran(end, 28, SUBSCRIBE_AT, 2, RECORDS_2));
+    memcpy(trace, once, length);
+    length += hub_packet_lines(BYTES(packets), 0, 1500000, true, trace + length, HUB_MESSAGE_LONGEST).length;
+    length += hub_packet_lines(BYTES(packets), PUBLISH_AT, 1500000, true, trace + length, HUB_MESSAGE_LONGEST).length;
+    end = hub_queue(trace, length, 1500000, true, (const uint8_t *)packets + end.place, PACKETS_END - end.place, room,
+                    sizeof room);
+    holds("the rest at that place", end.number == 0 && end.place == PACKETS_END - SUBSCRIBE_AT && end.done == 3);
+    holds("its records", end.length == sizeof later - 1 && memcmp(room, later, end.length) == 0);
+    holds("the counts of one call", counts(end, 6, 2));
+}
+
+/* A trace that is refused leaves the packets alone. */
+static void waking_refused(void) {
+    struct HubQueue end;
+    memset(room, 0xa5, sizeof room);
+    end = hub_queue(BYTES(""), 0, true, BYTES(packets), room, sizeof room);
+    holds("26 for an empty trace", ran(end, 26, 0, 0, 0) && counts(end, 0, 0));
+    end = hub_queue(BYTES(text) - 1, 1500000, true, BYTES(packets), room, sizeof room);
+    holds("26 within its second message", ran(end, 26, 0, 0, 0));
+    holds("the first one stays counted", counts(end, 1, 0));
+    end = hub_queue(longer, sizeof longer, 0, true, BYTES(""), room, 0);
+    holds("27 for a trace over the longest", ran(end, 27, 0, 0, 0) && counts(end, 0, 0));
+}
+
 int main(void) {
     matching();
     hashing();
@@ -292,6 +391,10 @@ int main(void) {
     converting();
     reading();
     lining();
+    waking();
+    waking_in_part();
+    waking_again();
+    waking_refused();
     printf("%d passed, %d failed\n", passed, failed);
     return failed != 0;
 }
