@@ -23,7 +23,7 @@ use tables::windows::ClientStormEntry;
 use topics::matching::Matching;
 
 // How many bytes there are up to the last that is not zero.
-fn used(s: &[u8]) -> usize {
+pub fn used(s: &[u8]) -> usize {
     let mut n = s.len();
     while 0 < n {
         if s[n - 1] != 0 {

@@ -1,28 +1,15 @@
 // Settings as text in a form, and back, as after a power cut (requests C-13, C-18):
 //     reload FORM
 // The answer has the text. The state is then the one that the text loads to; a state that is refused stays, and so does one that has no text in this form or whose text is refused.
-use crate::fields;
 use crate::parts::number32;
-use crate::say::say;
+use crate::runs;
+use crate::say::say_lines;
 use crate::say::say_number;
-use cut::after;
 use cut::args::is;
-use cut::before;
 use cut::upto;
 use monitor::state::MqttMonitor;
 use settings::load::load_settings;
 use settings::write::write_settings;
-
-// The lines of a text, each behind some blanks.
-fn say_lines(text: &[u8]) {
-    let mut left = text;
-    while 0 < left.len() {
-        say(b"\n   ");
-        say(before(left, b'\n'));
-        let rest = after(left, b'\n');
-        left = rest;
-    }
-}
 
 // The longest text has 5,547 bytes, and some more where settings are set by hand.
 fn reload(m: MqttMonitor, form: u32) -> MqttMonitor {
@@ -51,5 +38,5 @@ pub fn ask(m: MqttMonitor, name: &[u8], q: &[u8]) -> MqttMonitor {
     if is(name, b"reload") {
         return reload(m, number32(q, 1));
     }
-    fields::ask(m, name, q)
+    runs::ask(m, name, q)
 }

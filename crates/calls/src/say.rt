@@ -1,4 +1,6 @@
 // What an answer is written with. What belongs together is put into a buffer and written at once: a call of the system for each word would take most of the time.
+use cut::after;
+use cut::before;
 use cut::upto;
 use libc::STDOUT_FILENO;
 use lines::put;
@@ -61,6 +63,17 @@ pub fn say_place(at: usize) {
     let start = put::put_bytes(out, 0, b"\n   ");
     let end = put::put_decimal(out, start, at as u64);
     say(upto(out, end));
+}
+
+// The lines of a text, each behind some blanks.
+pub fn say_lines(text: &[u8]) {
+    let mut left = text;
+    while 0 < left.len() {
+        say(b"\n   ");
+        say(before(left, b'\n'));
+        let rest = after(left, b'\n');
+        left = rest;
+    }
 }
 
 // How a call ended.

@@ -1,8 +1,8 @@
--- `calls::reload::say_lines` is safe and ends. The invariant says nothing; the measure: the bytes that are left. Assumes nothing.
+-- `calls::say::say_lines` is safe and ends. The invariant says nothing; the measure: the bytes that are left. Assumes nothing.
 use lib.ListN.{length}
 use borrow.Author.Needs.{needs}
-use Rattle.calls.proofs.reload.say_lines.Statement.{statement}
-use Rattle.calls.proofs.reload.say_lines.Tie as tie
+use Rattle.calls.proofs.say.say_lines.Statement.{statement}
+use Rattle.calls.proofs.say.say_lines.Tie as tie
 
 abbrev Inv-loop : tie.InvT-loop
 Inv-loop text left₀ t left = Unit {0}
