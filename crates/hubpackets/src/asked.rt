@@ -1,4 +1,4 @@
-// What the program is asked for, by the words behind its name: which time and which verdict the messages of a capture get.
+// What the program is asked for, by the words behind its name: which time and which verdict the messages of a capture get, and whether they are inspected.
 use lines::value::Number;
 use lines::value::decimal;
 use slices::bytes::same_bytes;
@@ -6,14 +6,15 @@ use slices::bytes::starts_with;
 ghost use mathlib.Core.Path.{_≡_};
 ghost use Rattle.hubpackets.specs.Asked.{askedFirst, askedUnknown, askedWith};
 
-// The time and the verdict, or that a word is not known.
+// The time and the verdict, and whether the messages are inspected under settings; or that a word is not known.
 pub struct Asked {
     pub known: bool,
     pub at: u64,
     pub ok: bool,
+    pub inspect: bool,
 }
 
-// Without a word: time 0, and the clock is right.
+// Without a word: time 0, the clock is right, and nothing is inspected.
 fn first() -> Asked
     ensures { λ r. ⌜ r ≡ askedFirst ⌝ }
 {
@@ -21,6 +22,7 @@ fn first() -> Asked
         known: true,
         at: 0,
         ok: true,
+        inspect: false,
     }
 }
 
@@ -32,10 +34,11 @@ fn unknown() -> Asked
         known: false,
         at: 0,
         ok: true,
+        inspect: false,
     }
 }
 
-// What one word more asks for: `--clock=ok`, `--clock=bad`, or `--at=` and a decimal of 64 bits.
+// What one word more asks for: `--clock=ok`, `--clock=bad`, `--inspect`, or `--at=` and a decimal of 64 bits.
 pub fn with_word(asked: Asked, word: &[u8]) -> Asked
     ensures { λ r. ⌜ r ≡ askedWith asked (now (word .entry)) ⌝ }
 {
@@ -44,6 +47,7 @@ pub fn with_word(asked: Asked, word: &[u8]) -> Asked
             known: asked.known,
             at: asked.at,
             ok: true,
+            inspect: asked.inspect,
         };
     }
     if same_bytes(b"--clock=bad", word) {
@@ -51,6 +55,15 @@ pub fn with_word(asked: Asked, word: &[u8]) -> Asked
             known: asked.known,
             at: asked.at,
             ok: false,
+            inspect: asked.inspect,
+        };
+    }
+    if same_bytes(b"--inspect", word) {
+        return Asked {
+            known: asked.known,
+            at: asked.at,
+            ok: asked.ok,
+            inspect: true,
         };
     }
     if !starts_with(word, b"--at=") {
@@ -62,6 +75,7 @@ pub fn with_word(asked: Asked, word: &[u8]) -> Asked
             known: asked.known,
             at,
             ok: asked.ok,
+            inspect: asked.inspect,
         },
         Number::Bad => unknown(),
     }
