@@ -48,6 +48,8 @@ use Rattle.monitor.proofs.plan.fed_for as plan-fed-for
 use Rattle.monitor.proofs.plan.fed_for.Reads as plan-fed-for-reads
 use Rattle.monitor.proofs.plan.plan_from as plan-plan-from
 use Rattle.monitor.proofs.plan.plan_from.Reads as plan-plan-from-reads
+use Rattle.monitor.proofs.plan.plan_light as plan-plan-light
+use Rattle.monitor.proofs.plan.plan_light.Reads as plan-plan-light-reads
 use Rattle.monitor.proofs.plan.plan_for as plan-plan-for
 use Rattle.monitor.proofs.plan.plan_for.Reads as plan-plan-for-reads
 use Rattle.monitor.proofs.rule_calls.add_rule as rule-calls-add-rule
@@ -215,6 +217,12 @@ one-plan-plan-from κs a x y e f p q = p ∙ sym q
 
 pub any-plan-plan-from : Any plan-plan-from.ended plan-plan-from-reads.Asked
 any-plan-plan-from κs a = tt
+
+pub one-plan-plan-light : One plan-plan-light.ended plan-plan-light-reads.Post
+one-plan-plan-light κs a x y e f p q = p ∙ sym q
+
+pub any-plan-plan-light : Any plan-plan-light.ended plan-plan-light-reads.Asked
+any-plan-plan-light κs a = tt
 
 pub one-plan-plan-for : One plan-plan-for.ended plan-plan-for-reads.Post
 one-plan-plan-for κs a x y e f p q = p ∙ sym q

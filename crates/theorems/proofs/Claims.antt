@@ -6,6 +6,7 @@ use Rattle.lines.proofs.Round.{round}
 use Rattle.monitor.proofs.Chosen.{chosen}
 use Rattle.monitor.proofs.Denied.{denied-by-kind}
 use Rattle.monitor.proofs.Four.{four-at-most, none-dropped}
+use Rattle.monitor.proofs.Light.{light}
 use Rattle.monitor.proofs.Reached.{sound-always, sendable-always}
 use Rattle.monitor.proofs.Total.{total-is-sum}
 use Rattle.monitor.proofs.Unbroken.{unbroken-always}
@@ -14,6 +15,9 @@ use Rattle.packets.proofs.Missing.{missing}
 use Rattle.packets.proofs.Steps.{steps}
 use Rattle.packets.proofs.Taken.{taken}
 use Rattle.packets_text.proofs.ReadBack.{read-back}
+use Rattle.queue.proofs.Enough.{enough}
+use Rattle.queue.proofs.Joined.{calls-join}
+use Rattle.queue.proofs.Singly.{as-singly}
 use Rattle.theorems.specs.Claims.{Claims}
 use Rattle.theorems.proofs.Corners.{corners}
 use Rattle.theorems.proofs.Exactness.{exactness}
@@ -21,6 +25,7 @@ use Rattle.theorems.proofs.Guider.{guider-runs}
 use Rattle.theorems.proofs.Loop.{loop-limits}
 use Rattle.theorems.proofs.Lower.{lower-first, lower-later}
 use Rattle.theorems.proofs.Printed.{printed-limits}
+use Rattle.theorems.proofs.Queued.{queued-limits}
 use Rattle.theorems.proofs.RemovalRuns.{removal-runs}
 use Rattle.theorems.proofs.Removals.{gives-removed, felt-under, removed-under, felt-shipped, removed-shipped, failed-free}
 use Rattle.theorems.proofs.Settings.{saved-settings}
@@ -56,6 +61,11 @@ claims =
       packet-steps = steps;
       packet-taken = taken;
       read-back = read-back;
+      singly = as-singly;
+      joined = calls-join;
+      enough = enough;
+      queued = queued-limits;
+      light = light;
       chosen = chosen;
       sound = sound-always;
       unbroken = unbroken-always;

@@ -6,7 +6,7 @@ use Prim.Native.Nat.{ℕ, _≤_}
 use native.Mathlib.Omega.{arith}
 use Rattle.tables.specs.declared.identity.Id.{Id}
 use Rattle.monitor.specs.declared.state.MqttMonitor.{MqttMonitor}
-use Rattle.monitor.specs.Runs.{Call, Monitor, afterBy}
+use Rattle.monitor.specs.Runs.{Call}
 use Rattle.theorems.specs.Run.{Matcher, time, rateOf, reaches, InOrder, nothing, single, later, OneRate, Silent, done, next, arrived}
 
 -- a run that begins at s and ends at e, timestamps never going back
@@ -51,12 +51,7 @@ module _ (z : Call) where
   to-last s [] r = (r .0, omega arith)
   to-last s (c ∷ pre) r = (r .0, to-last (time c) pre (r .1))
 
--- the state after two runs
-pub after-two : (f : Monitor) (m : MqttMonitor) (pre post : List Call) → afterBy f m (pre ++ post) ≡ afterBy f (afterBy f m pre) post
-unfolding afterBy
-after-two f m [] post = refl
-after-two f m (c ∷ pre) post = after-two f _ pre post
-
+-- who has arrived after two runs
 pub arrived-two : (matcher : Matcher) (m : MqttMonitor) (l : List Id) (pre post : List Call)
     → arrived matcher m l (pre ++ post) ≡ arrived matcher m (arrived matcher m l pre) post
 unfolding arrived

@@ -11,10 +11,11 @@ use Rattle.monitor.specs.Runs.{Call, Monitor, shipped, afterBy}
 use Rattle.monitor.specs.State.{matcherOf}
 use Rattle.monitor.specs.declared.state.MqttMonitor.{MqttMonitor}
 use Rattle.monitor.proofs.Chosen.{one-matcher}
+use Rattle.monitor.proofs.Replies.{after-two}
 use Rattle.theorems.specs.LowerExact.{ExactBy, DeniesBy, Exactness}
 use Rattle.theorems.specs.Run.{rateOf, reaches}
 use Rattle.theorems.specs.Shipped.{passes, passedBy, UpperBy, LowerBy, LaterBy}
-use Rattle.theorems.proofs.Cuts.{after-two, rate-silent}
+use Rattle.theorems.proofs.Cuts.{rate-silent}
 use Rattle.theorems.proofs.Follows.{Counts, first-room, later-room, no-room-denied}
 use Rattle.theorems.proofs.LowerExact.{lower-exact}
 use Rattle.theorems.proofs.Shipped.{passed-alike, verdict}

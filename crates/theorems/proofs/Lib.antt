@@ -10,6 +10,7 @@ mod AnswersLoops
 mod AnswersMonitor
 mod AnswersPackets
 mod AnswersPackets_text
+mod AnswersQueue
 mod AnswersRules_text
 mod AnswersRuns
 mod AnswersSettings
@@ -17,6 +18,7 @@ mod AnswersSlices
 mod AnswersTables
 mod AnswersTopics
 mod AnswersTrace
+mod AnswersWake
 mod Budget
 mod Claims
 mod Corners
@@ -30,6 +32,7 @@ mod Loop
 mod Lower
 mod LowerExact
 mod Printed
+mod Queued
 mod Reach
 mod RemovalRuns
 mod Removals

@@ -17,21 +17,13 @@ use Rattle.monitor.specs.declared.inspection.Inspected.{Inspected}
 use Rattle.monitor.specs.declared.state.MqttMonitor.{MqttMonitor}
 use Rattle.monitor.proofs.state.KeptFormed.{kept-formed}
 use Rattle.monitor.proofs.Prepared.{prepared-sound}
-use Rattle.monitor.proofs.Replies.{exact-done}
+use Rattle.monitor.proofs.Replies.{exact-done, after-two, replies-two}
 use Rattle.loops.specs.Inspections.{fromAt, readied, planAt, stateAfter, allowedAfter}
 use Rattle.loops.proofs.inspections.LoopLaws.{readied-prepared}
 use Rattle.loops.proofs.inspections.LoopLaws.{next-within, all-run}
 use Rattle.theorems.specs.Printed.{passed, callAt, callsTo, loopReplies, LoopLimits}
 use Rattle.theorems.specs.Run.{time, InOrder, nothing, single, later}
-use Rattle.theorems.proofs.Cuts.{after-two}
 use Rattle.theorems.proofs.Printed.{shipped-limits}
-
--- replies of two runs, one after the other
-replies-two : (m : MqttMonitor) (a b : List Call) → repliesBy shipped m (a ++ b) ≡ repliesBy shipped m a ++ repliesBy shipped (afterBy shipped m a) b
-unfolding repliesBy afterBy
-replies-two m [] b = refl
-replies-two m (c ∷ a) b =
-    ap (λ (l : List Reply). record { call = c; given = shipped m c } ∷ l) (replies-two (shipped m c .monitor) a b)
 
 passed-two : (a b : List Reply) → passed (a ++ b) ≡ passed a + passed b
 unfolding passed
@@ -97,7 +89,7 @@ module _ (n : ℕ) (topics : List ℕ) (width size : ℕ) (short : width ≤ 128
       ≡ loopReplies n topics width size k
       ++ (record { call = callAt n topics width size k; given = shipped (there k) (callAt n topics width size k) } ∷ [])
   unfolding callsTo repliesBy
-  one-more k = replies-two (readied n) (callsTo n topics width size k) (callAt n topics width size k ∷ [])
+  one-more k = replies-two shipped (readied n) (callsTo n topics width size k) (callAt n topics width size k ∷ [])
 
   all-inspected : (k : ℕ) → every isInspected (loopReplies n topics width size k) ≡ true
   unfolding callsTo repliesBy every

@@ -7,9 +7,10 @@ use Rattle.laws.proofs.Cases.{by}
 use Rattle.tables.specs.declared.identity.Id.{Id}
 use Rattle.monitor.specs.declared.state.MqttMonitor.{MqttMonitor}
 use Rattle.monitor.specs.Runs.{Call, answer, after}
+use Rattle.monitor.proofs.Replies.{after-two}
 use Rattle.theorems.specs.Limits.{LowerFirst, LowerLater}
 use Rattle.theorems.specs.Run.{Matcher, isAllowed, rateOf, reaches, allowedOf}
-use Rattle.theorems.proofs.Cuts.{after-two, rate-silent}
+use Rattle.theorems.proofs.Cuts.{rate-silent}
 use Rattle.theorems.proofs.Follows.{Counts, first-room, later-room}
 use Rattle.theorems.proofs.LowerExact.{allowed-last, lower-exact}
 use Rattle.theorems.proofs.Turns.{Like, rate-like, on-run, begin}

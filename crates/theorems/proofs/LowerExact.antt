@@ -19,10 +19,11 @@ use Rattle.tables.proofs.buckets.BucketLaws.{one}
 use Rattle.tables.proofs.buckets.StepLaws.{Absent, Step}
 use Rattle.monitor.specs.Runs.{Call, answer, afterBy, after}
 use Rattle.monitor.specs.declared.state.MqttMonitor.{MqttMonitor}
+use Rattle.monitor.proofs.Replies.{after-two}
 use Rattle.theorems.specs.LowerExact.{NoRoom, LowerExact}
 use Rattle.theorems.specs.Run.{Matcher, time, isAllowed, used, rateOf, reaches, OneRate, next, allowedOf, arrived, noted}
 use Rattle.theorems.proofs.Account.{Account, quiet, own, begins, other, same-account}
-use Rattle.theorems.proofs.Cuts.{Timed, timed-le, From, from-start, until, since, after-two, arrived-two, rate-first, rate-rest, rate-head}
+use Rattle.theorems.proofs.Cuts.{Timed, timed-le, From, from-start, until, since, arrived-two, rate-first, rate-rest, rate-head}
 use Rattle.theorems.proofs.Holders.{clash, Named, absent-other}
 use Rattle.theorems.proofs.Seated.{arrives, arrives-le, room-turn, arrived-le, seated-run, first-allowed, step-of, seats-none}
 use Rattle.theorems.proofs.Seats.{Seats}

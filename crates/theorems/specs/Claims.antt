@@ -6,6 +6,7 @@ use Rattle.topics.specs.Encoding.{Utf8Exactly}
 use Rattle.topics.specs.Meaning.{Meaning, Difference}
 use Rattle.lines.specs.Round.{Round}
 use Rattle.monitor.specs.Chosen.{Chosen}
+use Rattle.monitor.specs.Light.{Light}
 use Rattle.monitor.specs.Reached.{SoundAlways, UnbrokenAlways, SendableAlways}
 use Rattle.monitor.specs.Told.{DeniedByKind, AtMostFour, NoneDropped, TotalIsSum}
 use Rattle.trace.specs.AsRun.{ReadAlike}
@@ -13,11 +14,15 @@ use Rattle.packets.specs.Missing.{Missing}
 use Rattle.packets.specs.Steps.{Steps}
 use Rattle.packets.specs.Taken.{Taken}
 use Rattle.packets_text.specs.ReadBack.{ReadBack}
+use Rattle.queue.specs.Enough.{Enough}
+use Rattle.queue.specs.Joined.{CallsJoin}
+use Rattle.queue.specs.Singly.{AsSingly}
 use Rattle.theorems.specs.Corners.{Corners}
 use Rattle.theorems.specs.Guider.{Guider}
 use Rattle.theorems.specs.Limits.{Upper, LowerFirst, LowerLater}
 use Rattle.theorems.specs.LowerExact.{Exactness}
 use Rattle.theorems.specs.Printed.{PrintedLimits, LoopLimits}
+use Rattle.theorems.specs.Queued.{QueuedLimits}
 use Rattle.theorems.specs.RemovalRuns.{RemovalRuns}
 use Rattle.theorems.specs.Removals.{Removals}
 use Rattle.theorems.specs.Settings.{SavedSettings}
@@ -79,6 +84,17 @@ pub record Claims : Type 0 where
   pub packet-taken : Taken
   -- and the trace's reader reads back the lines that are written of a packet as its messages, in order, and then what follows
   pub read-back : ReadBack
+  -- A QUEUE (request C-12): a run of packets in one call answers, records and leaves the state as inspecting its messages singly. It does all messages of the packets before its place and none of any
+  -- other; neither 9 nor the record's 10 occurs; the records fit, and the bytes behind them stay; 10 comes before everything; and it ends at the end of the bytes or at a packet that is refused
+  pub singly : AsSingly
+  -- whoever calls again where a call ended, with room or with the bytes that were missing, gets what one call gives
+  pub joined : CallsJoin
+  -- 28 says that there are less than 528 bytes of room for each message, and with 264 for each byte of the packets it does not occur
+  pub enough : Enough
+  -- calls one after the other are a run of inspections, and demand 3 holds of what they hand back
+  pub queued : QueuedLimits
+  -- this rests on messages that ask no table, those that are neither a Publish nor a CONNECT: what they answer follows from rules and counters, and only the counters change
+  pub light : Light
   -- A MONITOR'S MATCHER is the one that its constructor chose: every call keeps it, runs take it throughout, and by it the rules are chosen level by level
   pub chosen : Chosen
   -- ONE INSPECTION AND MANY. Every state that calls hand out is sound, so number 10 is never met in one

@@ -5,6 +5,7 @@ pub mod Limits
 pub mod LowerExact
 pub mod One
 pub mod Printed
+pub mod Queued
 pub mod RemovalRuns
 pub mod Removals
 pub mod Run
