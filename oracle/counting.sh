@@ -16,14 +16,14 @@ original() {
     touch "$room/built"
 }
 
-# host [--lto] NAME: builds a program of oracle/src over the original and the archives of hub, desk, boot and jack.
+# host [--lto] NAME: builds a program of oracle/src over the original and the archives of hub, desk, boot, jack and wake.
 host() {
     original
     if [ -z "${HUB_ARCHIVE-}" ]; then
-        for crate in hub desk boot jack; do oracle/archive "$crate" >&2; done
+        for crate in hub desk boot jack wake; do oracle/archive "$crate" >&2; done
         HUB_ARCHIVE=$root/target/staticlib
     fi
-    oracle/host "$@" "$HUB_ARCHIVE" hub desk boot jack
+    oracle/host "$@" "$HUB_ARCHIVE" hub desk boot jack wake
 }
 
 # The traces that we measure with, in $room/traces.

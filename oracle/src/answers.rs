@@ -5,8 +5,9 @@
 //! docs/DIFFERENCES.md has them all. A line that is not understood, or a field that there is not, ends the program; so
 //! does a call that chooses a rule, on a monitor that matches otherwise than the original that this is built over.
 //! Where the limit stands is no call of the original: it is found out by trying on copies (tried.rs). Nor are its
-//! settings as text, of which there are a second reader and writer (reload.rs).
+//! settings as text, of which there are a second reader and writer (reload.rs), nor a run of packets (queued.rs).
 
+use crate::queued::{self, Ran};
 use crate::reload::reload;
 use crate::tally::Random;
 use crate::tried::{self, Left, Stand};
@@ -44,6 +45,10 @@ const RECORD_FIELDS: [&str; 12] = [
 /// The longest topic that a message has.
 const TOPIC_MAX: usize = 128;
 
+/// The most bytes of packets that a line can bring, and of the room that it can lend.
+pub const PACKETS_MAX: usize = 2_048;
+pub const ROOM_MAX: usize = 8_192;
+
 /// By a high rate all tokens are sent once in so many times.
 const SELDOM: usize = 50;
 
@@ -64,6 +69,7 @@ pub enum Answer {
         number: u32,
         line: u64,
     },
+    Queued(Ran),
 }
 
 impl Display for Answer {
@@ -83,6 +89,10 @@ impl Display for Answer {
                     _ => write!(out, " refused={number} line={line}")?,
                 }
                 String::from_utf8_lossy(text).lines().try_for_each(|line| write!(out, "\n   {line}"))
+            }
+            Answer::Queued(Ran { number, place, done, records, .. }) => {
+                write!(out, " number={number} place={place} done={done} length={}", records.len())?;
+                String::from_utf8_lossy(records).lines().try_for_each(|line| write!(out, "\n   {line}"))
             }
             Answer::Inspected(_, result) => {
                 write!(out, " allowed={} alerts={}", result.allowed as u8, result.alert_count)?;
@@ -214,6 +224,10 @@ impl Original {
             _ if RECORD_FIELDS.contains(&name) => {
                 assert!(state::set_at(monitor, name, args.number(0) as usize, args.number(1)), "{name}");
             }
+            // A run says 10 as it says any other end.
+            "queue" if no_call_hands_out(monitor).is_some() => {
+                return Answer::Queued(Ran { number: 10, ..Ran::default() });
+            }
             _ if no_call_hands_out(monitor).is_some() => return Answer::Refused(10),
             _ => return self.call(name, args),
         }
@@ -243,12 +257,13 @@ impl Original {
                 Ok(0)
             }
             "reload" => return reload(self, args.small(0, 32) as u32),
-            "standing" | "tokens_left" | "inspect" | "inspect_claimed" if self.matching != MATCH => {
+            "standing" | "tokens_left" | "inspect" | "inspect_claimed" | "queue" if self.matching != MATCH => {
                 panic!("{name} of a monitor whose matching is {}", self.matching)
             }
             "standing" => return stands(monitor, &args.bytes(0), None),
             "tokens_left" => return stands(monitor, &args.bytes(0), Some(args.number(1))),
             "inspect" | "inspect_claimed" => return inspect(monitor, name == "inspect_claimed", args),
+            "queue" => return queue(monitor, args),
             _ => panic!("not understood: {name}"),
         };
         result.into()
@@ -302,6 +317,13 @@ fn inspect(monitor: &mut MqttMonitor, claimed: bool, args: &Args) -> Answer {
     opened::set_verdict(args.0[1] == "ok");
     let result = monitor.inspect(&message);
     Answer::Inspected(message, result)
+}
+
+/// A run of packets, with one time and one verdict for all, into so much room.
+fn queue(monitor: &mut MqttMonitor, args: &Args) -> Answer {
+    let (time, room, packets) = ((args.number(0), args.0[1] == "ok"), args.number(2) as usize, args.bytes(3));
+    assert!(packets.len() <= PACKETS_MAX && room <= ROOM_MAX, "{} bytes into {room}", packets.len());
+    Answer::Queued(queued::run(monitor, &packets, time, room))
 }
 
 pub fn hex(bytes: &[u8]) -> String {

@@ -64,6 +64,16 @@ fn main() {
             black_box(hub::packet_lines(bytes, 0, u64::MAX, false, &mut room[..*long]));
         }
     });
+    let runs = runs(&packets);
+    row("hub_queue", || {
+        let opening = b"default=block\nrules=0\n";
+        traces.iter().for_each(|text| _ = black_box(hub::queue(text, u64::MAX, false, &runs[0], &mut room)));
+        for bytes in &runs {
+            let length = hub::queue(opening, u64::MAX, false, bytes, &mut room).length;
+            let mut call = |long: usize| _ = black_box(hub::queue(opening, 0, true, bytes, &mut room[..long]));
+            [0, length / 2, length].into_iter().for_each(&mut call);
+        }
+    });
     row("hub_standing", || traces.iter().for_each(|text| _ = hub::standing(text, &mut room)));
     row("hub_standing_standard", || traces.iter().for_each(|text| _ = hub::standing_standard(text, &mut room)));
 }
@@ -113,6 +123,12 @@ fn settings(rules: u8) -> Vec<u8> {
 fn packets() -> Vec<Vec<u8>> {
     let counted = measured::packets().into_iter().map(|(_, bytes)| bytes);
     drafts::examples().iter().map(Draft::bytes).chain(counted).collect()
+}
+
+/// Runs of packets: every shape one behind the other, as a whole and with what can go wrong with it; and each alone.
+fn runs(alone: &[Vec<u8>]) -> Vec<Vec<u8>> {
+    let whole = packets().concat();
+    variants(&whole).into_iter().chain(alone.iter().cloned()).collect()
 }
 
 /// A text, and what can go wrong with it: an end in many places, a bad byte in many places, too many bytes.

@@ -2,6 +2,9 @@
 //! port.
 
 mod answers;
+mod checks;
+mod mqtt;
+mod queued;
 mod reader;
 mod reload;
 mod tally;

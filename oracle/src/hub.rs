@@ -1,5 +1,5 @@
-//! The exports of the archives of hub, desk, boot and jack, as safe functions on slices. The C declarations stand in
-//! include/hub.h; a slice crosses as pointer and length, and a Rust slice always meets the duties named there.
+//! The exports of the archives of hub, desk, boot, jack and wake, as safe functions on slices. The C declarations stand
+//! in include/hub.h; a slice crosses as pointer and length, and a Rust slice always meets the duties named there.
 
 /// The two hashes that tell clients apart.
 #[repr(C)]
@@ -48,8 +48,21 @@ pub struct HubPacketLines {
     pub length: usize,
 }
 
+/// How a run of packets ended: 0 for a whole one or the number that ended it, the place of the packet at which it ended,
+/// how many messages were done, how many bytes their records have, and the monitor's two counts afterwards.
+#[repr(C)]
+#[derive(Clone, Copy, Debug, PartialEq, Eq)]
+pub struct HubQueue {
+    pub number: u32,
+    pub place: usize,
+    pub done: u64,
+    pub length: usize,
+    pub inspected: u64,
+    pub total: u64,
+}
+
 mod raw {
-    use super::{HubClientHashes, HubPacket, HubPacketLines, HubSettings, HubTrace};
+    use super::{HubClientHashes, HubPacket, HubPacketLines, HubQueue, HubSettings, HubTrace};
 
     #[rustfmt::skip]
     unsafe extern "C" {
@@ -76,6 +89,8 @@ mod raw {
         pub fn hub_packet(bytes: *const u8, bytes_len: usize, place: usize) -> HubPacket;
         pub fn hub_packet_lines(bytes: *const u8, bytes_len: usize, place: usize, at: u64, clock_ok: bool,
             out: *mut u8, out_len: usize) -> HubPacketLines;
+        pub fn hub_queue(trace: *const u8, trace_len: usize, at: u64, clock_ok: bool,
+            packets: *const u8, packets_len: usize, out: *mut u8, out_len: usize) -> HubQueue;
     }
 }
 
@@ -216,4 +231,14 @@ pub fn packet(bytes: &[u8], place: usize) -> HubPacket {
 #[inline]
 pub fn packet_lines(bytes: &[u8], place: usize, at: u64, clock_ok: bool, out: &mut [u8]) -> HubPacketLines {
     unsafe { raw::hub_packet_lines(bytes.as_ptr(), bytes.len(), place, at, clock_ok, out.as_mut_ptr(), out.len()) }
+}
+
+/// A run of packets with one time and one verdict, inspected after a trace's messages; a record for each message into the
+/// front of `out`. Refuses what `trace` does, but for its 28, with place 0. What `packet` refuses, and a packet whose
+/// records do not fit, with 28, ends the run at that packet, and the records before it stay.
+#[inline]
+pub fn queue(trace: &[u8], at: u64, clock_ok: bool, packets: &[u8], out: &mut [u8]) -> HubQueue {
+    let (text, text_len) = (trace.as_ptr(), trace.len());
+    let (bytes, bytes_len) = (packets.as_ptr(), packets.len());
+    unsafe { raw::hub_queue(text, text_len, at, clock_ok, bytes, bytes_len, out.as_mut_ptr(), out.len()) }
 }

@@ -1,15 +1,18 @@
 //! One script through the Rust original: its text, with a look at the whole state behind each line, what the original
 //! says to it, and what happened on the way.
 
-use crate::answers::{Answer, NEW, NEW_DENY_DEFAULT, Original, no_call_hands_out};
-use crate::met::{KINDS, Met, PLACES, STEPS, buckets, choices};
+use crate::answers::{Answer, NEW, NEW_DENY_DEFAULT, Original, bytes, no_call_hands_out};
+use crate::met::{self, KINDS, Met, PLACES, STEPS, choices};
+use crate::mqtt;
+use crate::queued::Ran;
 use crate::tried::{Left, Stand};
 use std::panic::{AssertUnwindSafe, catch_unwind};
 use vs_mqtt_monitor::matcher::STANDARD;
 use vs_mqtt_monitor::{TopicAction, opened, state};
 
-/// Every public call of the monitor. `inspect_claimed` is `inspect` with claimed lengths, `counters` are three calls.
-const CALLS: [&str; 16] = [
+/// Every public call of the monitor, and the run of packets. `inspect_claimed` is `inspect` with claimed lengths, `counters`
+/// are three calls.
+const CALLS: [&str; 17] = [
     NEW,
     NEW_DENY_DEFAULT,
     "add_rule",
@@ -26,6 +29,7 @@ const CALLS: [&str; 16] = [
     "counters",
     "standing",
     "tokens_left",
+    "queue",
 ];
 
 const TYPES: [&str; 15] = [
@@ -98,6 +102,31 @@ pub const RELOADS: [&str; 12] = [
     "reloaded, trackers lost",
 ];
 
+/// Runs of packets: how they ended, and what they did or left alone.
+pub const QUEUES: [&str; 21] = [
+    "queue ended by 0",
+    "queue ended by 10",
+    "queue ended by 28",
+    "queue ended by 31",
+    "queue ended by 32",
+    "queue ended by 33",
+    "queue of no packet",
+    "queue of 10 messages or more",
+    "queue ended after some messages by 28",
+    "queue ended after some messages by 31",
+    "queue ended after some messages by 32",
+    "queue ended after some messages by 33",
+    "queue ended by 28 at a CONNECT",
+    "queue ended by 28 at a PUBLISH",
+    "queue ended by 28 at several filters",
+    "queue in an exact fit",
+    "queue that changed buckets",
+    "queue that changed clients",
+    "queue that changed trackers",
+    "queue with a packet of several messages",
+    "queue in which the id wrapped",
+];
+
 /// What only standard monitors meet: a loaded one goes on as one.
 const GOES_ON: &str = "reloaded, then a rule chosen that the port would not choose";
 
@@ -146,6 +175,7 @@ pub fn all() -> impl Iterator<Item = &'static str> {
     calls
         .chain(STANDS)
         .chain(RELOADS)
+        .chain(QUEUES)
         .chain(STANDARD.then_some(GOES_ON))
         .chain(kinds)
         .chain(PLACES)
@@ -177,7 +207,7 @@ impl Play<'_> {
         let holders = opened::holders(&self.original.monitor);
         let (rules, reason) = (self.original.monitor.rule_count(), no_call_hands_out(&self.original.monitor));
         let (next_id, stale) = (state::settings(&self.original.monitor).3, self.original.stale);
-        let buckets = buckets(&self.original.monitor);
+        let buckets = met::buckets(&self.original.monitor);
         let far = buckets.iter().flatten().any(|bucket| !bucket.live && bucket.remainder > 999_999);
         let answer = catch_unwind(AssertUnwindSafe(|| self.original.answer(&line)));
         let answer = answer.unwrap_or_else(|_| Answer::Text(" (the original panics)".into()));
@@ -188,7 +218,7 @@ impl Play<'_> {
             self.met.count("calls", 1);
         }
         let monitor = &self.original.monitor;
-        let taken = matches!(answer, Answer::Done(_) | Answer::Inspected(..));
+        let taken = matches!(answer, Answer::Done(_) | Answer::Inspected(..) | Answer::Queued(Ran { number: 0, .. }));
         self.met.count("remainder over 999,999 in a free place", (far && taken).into());
         match &answer {
             Answer::Text(_) => self.loaded &= words[0] != NEW && words[0] != NEW_DENY_DEFAULT,
@@ -267,9 +297,54 @@ impl Play<'_> {
                 let at_cap = monitor.total_alerts() == u64::MAX && result.alert_count > 0;
                 self.met.count("alerts at their cap", at_cap.into());
             }
+            Answer::Queued(ran) => {
+                if let (10, Some(reason)) = (ran.number, reason) {
+                    self.met.count(reason, 1);
+                }
+                let after = opened::holders(monitor);
+                let changed = |places: std::ops::Range<usize>| holders[places.clone()] != after[places];
+                self.met.count("queue that changed buckets", (buckets != met::buckets(monitor)).into());
+                self.met.count("queue that changed clients", changed(32..48).into());
+                self.met.count("queue that changed trackers", changed(48..64).into());
+                self.met.count("queue in which the id wrapped", (state::settings(monitor).3 < next_id).into());
+                for (message, result, _) in &ran.messages {
+                    self.met.count(TYPES[message.packet_type as usize - 1], 1);
+                    self.met.count("clock back", (message.timestamp_us < self.last_at).into());
+                    self.last_at = message.timestamp_us;
+                    self.met.count_alerts(result);
+                    let apart = self.met.count_choice(monitor, message);
+                    self.met.count(GOES_ON, (apart && self.loaded).into());
+                }
+                self.count_end(ran, words[3], words[4]);
+            }
         }
         self.count_tables();
         self.lines.push(line);
+    }
+
+    /// Counts how a run of these packets into this room ended.
+    fn count_end(&mut self, ran: &Ran, room: &str, packets: &str) {
+        let mut count = |name: String| self.met.count(QUEUES.iter().find(|known| **known == name).expect(&name), 1);
+        count(format!("queue ended by {}", ran.number));
+        if ran.number != 0 && ran.done > 0 {
+            count(format!("queue ended after some messages by {}", ran.number));
+        }
+        let packets = bytes(packets.trim_start_matches('-')).expect("bytes in hex");
+        if ran.number == 28 {
+            let packet = mqtt::read(&packets, ran.place).expect("a packet that is taken");
+            match (packet.messages[0].kind, packet.messages.len()) {
+                (mqtt::CONNECT, _) => count("queue ended by 28 at a CONNECT".into()),
+                (mqtt::PUBLISH, _) => count("queue ended by 28 at a PUBLISH".into()),
+                (_, 2..) => count("queue ended by 28 at several filters".into()),
+                _ => {}
+            }
+        }
+        let several = ran.packets.len() as u64 != ran.done;
+        let exact = ran.number == 0 && ran.done > 0 && room == ran.records.len().to_string();
+        self.met.count("queue of no packet", (packets.is_empty() && ran.number == 0).into());
+        self.met.count("queue of 10 messages or more", (ran.done >= 10).into());
+        self.met.count("queue in an exact fit", exact.into());
+        self.met.count("queue with a packet of several messages", several.into());
     }
 
     /// Counts what a state has reached, whichever call led there.

@@ -3,6 +3,7 @@
 //! the scripts then really met is counted by the comparison, and each maker names what it must have met.
 
 mod asks;
+mod queues;
 mod reloads;
 
 use crate::answers::{NEW, NEW_DENY_DEFAULT, hex};
@@ -12,6 +13,7 @@ use crate::pairs::{Pairs, reblocked};
 use crate::play::Play;
 use crate::tally::Random;
 use asks::{ask_standing, ask_tokens};
+use queues::queue;
 use reloads::reload;
 use vs_mqtt_monitor::{MqttMonitor, state};
 use vs_types_embedded::fnv1a_hash;
@@ -76,6 +78,7 @@ pub const MAKERS: &[Maker] = &[
     ),
     asks::STANDING,
     reloads::RELOADED,
+    queues::QUEUED,
 ];
 
 /// One script of a maker.
@@ -359,7 +362,7 @@ fn anew(scribe: &mut Scribe) {
 }
 
 /// Every call that a state may be refused to.
-const CHANGES: [Turn; 16] = [
+const CHANGES: [Turn; 17] = [
     add_rule,
     remove_rule,
     swap_rules,
@@ -376,6 +379,7 @@ const CHANGES: [Turn; 16] = [
     ask_standing,
     ask_tokens,
     reload,
+    queue,
 ];
 
 fn every_call(scribe: &mut Scribe) {
@@ -733,6 +737,7 @@ fn removals(scribe: &mut Scribe) {
             (1, ask_counters),
             (1, ask_standing),
             (1, ask_tokens),
+            (1, queue),
         ],
     );
 }

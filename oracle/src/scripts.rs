@@ -4,10 +4,14 @@
 //! bound of request C-24 must hold. Over an original that chooses rules by MQTT 3.1.1 the scripts make monitors that do.
 
 mod answers;
+mod checks;
+mod drafts;
 mod make;
 mod met;
+mod mqtt;
 mod pairs;
 mod play;
+mod queued;
 mod reader;
 mod reload;
 mod said;

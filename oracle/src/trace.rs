@@ -177,7 +177,8 @@ fn digit_value(digit: u8) -> u8 {
     if digit <= b'9' { digit - b'0' } else { digit - b'a' + 10 }
 }
 
-fn put_record(out: &mut Vec<u8>, ordinal: u64, result: &MqttInspectResult) {
+/// Adds the record of one message: its lines from `n=` on.
+pub fn put_record(out: &mut Vec<u8>, ordinal: u64, result: &MqttInspectResult) {
     put_number(out, b"n=", ordinal);
     put_number(out, b"allowed=", result.allowed.into());
     put_number(out, b"alerts=", result.alert_count.into());

@@ -6,9 +6,11 @@
 //!
 //! A run begins with a constructor, with a reset of a state in which nothing was set by hand, or with settings that were
 //! reloaded. Up to its first message any call may come. It ends where a rule is changed, a field is set by hand or the
-//! time goes back.
+//! time goes back. The messages of a run of packets are those that the second reader finds in its line, and of them
+//! those that have a record.
 
 use crate::answers::{NEW, NEW_DENY_DEFAULT, bytes, id_words};
+use crate::mqtt;
 use crate::said::{self, Look, Said};
 use crate::tally::Class;
 use std::collections::BTreeMap;
@@ -16,7 +18,7 @@ use vs_mqtt_monitor::opened::contains_invalid_publish_char;
 use vs_mqtt_monitor::state::identity;
 
 /// What windows must have met.
-const MET: [&str; 13] = [
+const MET: [&str; 15] = [
     "with no removal",
     "with one",
     "with more",
@@ -30,6 +32,8 @@ const MET: [&str; 13] = [
     "with a refused removal",
     "with a tracker removed",
     "with a storm setting",
+    "with a run of packets",
+    "within a run of packets",
 ];
 
 /// The windows that one side's answers have.
@@ -59,6 +63,7 @@ struct Between {
     refused: usize,
     trackers: usize,
     settings: usize,
+    queues: usize,
 }
 
 /// A message that reached the limiter: its line and time, the messages of its topic that were allowed before it and with
@@ -148,6 +153,7 @@ impl<'a> Reader<'a> {
             "remove_rate_bucket" => self.removal(before, done, windows),
             _ if refused => {}
             "inspect" | "inspect_claimed" => self.message(before, &words[1..], windows)?,
+            "queue" => self.queue(before, &words[1..], windows)?,
             "remove_ewma_tracker" => self.calls.trackers += 1,
             "set_connect_storm_params" => self.calls.settings += 1,
             "validate_rules" | "counters" | "standing" | "tokens_left" => {}
@@ -194,30 +200,50 @@ impl<'a> Reader<'a> {
 
     /// A message that was inspected.
     fn message(&mut self, before: Look<'a>, words: &[&str], windows: &mut Windows) -> Option<()> {
-        let (line, at) = (self.said.len() - 1, words.first()?.parse().ok()?);
-        let allowed = self.said[line].answer.strip_prefix(" allowed=")?.starts_with('1');
-        match self.run {
-            Run::Over => return Some(()),
-            Run::At(last) if at < last => {
-                self.end(windows);
-                return Some(());
-            }
-            _ => self.run = Run::At(at),
-        }
+        let allowed = self.said.last()?.answer.strip_prefix(" allowed=")?.starts_with('1');
+        let (at, kind) = (words.first()?.parse().ok()?, words.get(2)?.parse().ok()?);
         let mut topic = bytes(words.get(4)?.trim_start_matches('-'))?;
         let claimed = words.get(7).map_or(Some(topic.len()), |claimed| claimed.parse().ok())?;
         topic.truncate(claimed.min(128));
+        self.inspected(before, at, kind, &topic, allowed, windows);
+        Some(())
+    }
+
+    /// The messages of a run of packets that have a record; no rule changes between them.
+    fn queue(&mut self, before: Look<'a>, words: &[&str], windows: &mut Windows) -> Option<()> {
+        let (at, packets) = (words.first()?.parse().ok()?, bytes(words.get(3)?.trim_start_matches('-'))?);
+        let records = self.said.last()?.answer.split('\n');
+        let mut verdicts = records.filter_map(|line| line.strip_prefix("   allowed=")).peekable();
+        let mut place = 0;
+        self.calls.queues += 1;
+        while verdicts.peek().is_some() {
+            let packet = mqtt::read(&packets, place).ok()?;
+            for message in &packet.messages {
+                let allowed = verdicts.next()? == "1";
+                self.inspected(before, at, message.kind, message.topic, allowed, windows);
+            }
+            place += packet.length;
+        }
+        Some(())
+    }
+
+    /// A message that was inspected under the rules of this look.
+    fn inspected(&mut self, before: Look, at: u64, kind: u8, topic: &[u8], allowed: bool, windows: &mut Windows) {
+        match self.run {
+            Run::Over => return,
+            Run::At(last) if at < last => return self.end(windows),
+            _ => self.run = Run::At(at),
+        }
         // Only such a topic may be matched.
-        let plain = words[2] == "3" && !topic.is_empty() && !contains_invalid_publish_char(&topic);
-        let Some(rate) = plain.then(|| before.rate(&topic)).flatten() else { return Some(()) };
-        let found = self.topics.entry(id_words(&identity(&topic))).or_default();
+        let plain = kind == mqtt::PUBLISH && !topic.is_empty() && !contains_invalid_publish_char(topic);
+        let Some(rate) = plain.then(|| before.rate(topic)).flatten() else { return };
+        let (line, found) = (self.said.len() - 1, self.topics.entry(id_words(&identity(topic))).or_default());
         let known = if found.messages.is_empty() { Some(rate) } else { found.rate };
         found.rate = known.filter(|&known| known == rate);
         let before = found.messages.last().map_or(0, |last| last.with);
         let with = before + usize::from(allowed);
         let calls = Between { own: found.own, felt: found.felt, ..self.calls };
         found.messages.push(Message { line, at, before, with, calls });
-        Some(())
     }
 
     /// The end of a run: each pair of messages of a topic that had one rate is a window.
@@ -253,6 +279,8 @@ impl<'a> Reader<'a> {
             first.calls.refused < last.calls.refused,
             first.calls.trackers < last.calls.trackers,
             first.calls.settings < last.calls.settings,
+            first.calls.queues < last.calls.queues,
+            first.line == last.line && first.with < last.with,
         ];
         windows.met.iter_mut().zip(met).for_each(|(times, met)| *times += u64::from(met));
         windows.class.agree();
