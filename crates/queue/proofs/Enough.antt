@@ -23,8 +23,8 @@ use Rattle.packets.proofs.messages.LeftLaws.{calls-exact}
 use Rattle.packets.proofs.packet.AcceptedLaws.{packet-is}
 use Rattle.queue.specs.Enough.{Enough}
 use Rattle.queue.specs.Queue.{Wake, callsIn, recordsOf, queueRefusal, Ran, ranOf, sentOf}
-use Rattle.queue.proofs.Singly.{reaches, ends, formless, sent-exact}
-use Rattle.queue.proofs.run.RanLaws.{packet-good, packet-full}
+use Rattle.queue.proofs.Singly.{reaches, ends, sent-exact}
+use Rattle.queue.proofs.run.RanLaws.{formless, packet-good, packet-full}
 
 counted : {m : MqttMonitor} → Ranged m → Counted m
 counted r = record { id64 = r .id-fits; inspected64 = r .inspected-fits; total64 = r .alerts-fit }

@@ -19,8 +19,8 @@ use Rattle.packets.specs.declared.packet.Packet.{Packet}
 use Rattle.packets.proofs.messages.MovedLaws.{packet-before, calls-before, packet-behind, calls-behind}
 use Rattle.queue.specs.Joined.{atOnce, leftBy, second, CallsJoin}
 use Rattle.queue.specs.Queue.{Wake, callsIn, recordsOf, Ran, endsAt, ranOf, sentOf}
-use Rattle.queue.proofs.Singly.{reaches, ends, formless, sent-exact}
-use Rattle.queue.proofs.run.RanLaws.{records-join, left, left-end, left-stop, left-turn, packet-good, packet-refuses, refused-packet, refused-none, refused-room}
+use Rattle.queue.proofs.Singly.{reaches, ends, sent-exact}
+use Rattle.queue.proofs.run.RanLaws.{records-join, formless, left, left-end, left-stop, left-turn, packet-good, packet-refuses, refused-packet, refused-none, refused-room}
 
 -- a call that does not end by 28, at a place that it comes to
 module _ (m : MqttMonitor) (w : Wake) (roomy : ranOf m w .number ≡ 28 → ⊥) (place : ℕ) (sent : List Call) (at : ranOf m w ≡ left m w place sent) where

@@ -1,6 +1,6 @@
 -- What is claimed of one call (specs/Singly.antt). What holds before the first packet, and of each packet that is done, holds where the run ends (`reaches`); and it ends at the end of the bytes, or
 -- at a packet that is refused. Assumes nothing.
-use mathlib.Core.Bool.{true, false}
+use mathlib.Core.Bool.{true}
 use mathlib.Core.List.{List, [], _∷_, _++_}
 use mathlib.Core.Path.{_≡_, refl, sym, ap, subst, _∙_}
 use Prim.Native.Nat.{ℕ, zero, suc, _+_, _-_, _≤_, _<_}
@@ -19,9 +19,9 @@ use Rattle.monitor.proofs.Replies.{AllExact, exact-join, run-inspected}
 use Rattle.trace.specs.AsRun.{recordsText}
 use Rattle.packets.specs.Packet.{packetAt}
 use Rattle.packets.proofs.messages.LeftLaws.{calls-exact, AllAt, at-join, calls-at}
-use Rattle.queue.specs.Queue.{Wake, callsIn, recordsOf, queueRefusal, Ran, endsAt, ranFrom, ranOf, sentOf, queueKept}
+use Rattle.queue.specs.Queue.{Wake, callsIn, recordsOf, queueRefusal, Ran, ranFrom, ranOf, sentOf, queueKept}
 use Rattle.queue.specs.Singly.{Packets, none, next, isRecorded, isEnd, AsSingly}
-use Rattle.queue.proofs.run.RanLaws.{packet-good, room-good, further, refusal-known}
+use Rattle.queue.proofs.run.RanLaws.{formless, packet-good, room-good, further, refusal-known}
 
 module _ (m : MqttMonitor) (w : Wake) where
   -- what goes along a run
@@ -61,17 +61,13 @@ module _ (m : MqttMonitor) (w : Wake) where
       ends-from k (place + packetAt (w .bytes) place .length) (sent ++ callsIn w place) (omega (arith, h, f, l)))
       (λ u. record { whole = λ e. absurd (eqb-false _ _ u e); refused = λ _. (l, refl) }))
 
-  pub formless : wellFormed m ≡ false → ranOf m w ≡ endsAt 10 0 []
-  unfolding ranOf
-  formless f = rw f
-
   pub ends : wellFormed m ≡ true → Ends (ranOf m w)
   unfolding ranOf
   ends f = rw f (ends-from (length (w .bytes) + 1) 0 [] (omega arith))
 
   -- 10 is not 0
   formed : ranOf m w .number ≡ 0 → wellFormed m ≡ true
-  formed e = by (wellFormed m) (λ t. t) (λ f. absurd (omega (arith, ap (λ (r : Ran). r .number) (formless f), e)))
+  formed e = by (wellFormed m) (λ t. t) (λ f. absurd (omega (arith, ap (λ (r : Ran). r .number) (formless m w f), e)))
 
   packets : Packets w (ranOf m w .place) (sentOf m w)
   packets = reaches (Packets w) (λ place sent _ z p. next p (packet-good m w place sent z)) none
@@ -93,7 +89,7 @@ module _ (m : MqttMonitor) (w : Wake) where
   inspected : every isInspected (repliesBy shipped m (sentOf m w)) ≡ true
   unfolding repliesBy every
   inspected = by (wellFormed m) (λ t. run-inspected (sentOf m w) m t sent-exact)
-      (λ f. subst (λ (r : Ran). every isInspected (repliesBy shipped m (r .sent)) ≡ true) (sym (formless f)) refl)
+      (λ f. subst (λ (r : Ran). every isInspected (repliesBy shipped m (r .sent)) ≡ true) (sym (formless m w f)) refl)
 
   no-records : length (recordsOf m []) ≤ w .room
   unfolding recordsText repliesBy

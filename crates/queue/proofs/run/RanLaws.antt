@@ -1,6 +1,6 @@
 -- How the run's definition goes from packet to packet: at the end of the bytes it is whole, a packet that is refused ends it, any other is done and the run goes on behind it. And what the records of
 -- two lists of messages are. Assumes nothing.
-use mathlib.Core.Bool.{cond}
+use mathlib.Core.Bool.{false, cond}
 use mathlib.Core.List.{List, [], _∷_, _++_, append-assoc}
 use mathlib.Core.Path.{_≡_, refl, sym, ap, _∙_}
 use Prim.Native.Nat.{ℕ, suc, _+_, _-_, _≤_, _<_}
@@ -12,6 +12,7 @@ use borrow.Author.Tests.{eqb-true, eqb-false, ne-eqb, le-leb, lt-leb, leb-true, 
 use Rattle.laws.proofs.Cases.{by, whichever}
 use Rattle.laws.proofs.Fuel.{fuel}
 use Rattle.monitor.specs.Runs.{Call, Reply, Monitor, shipped, afterBy, repliesBy}
+use Rattle.monitor.specs.State.{wellFormed}
 use Rattle.monitor.specs.declared.state.MqttMonitor.{MqttMonitor}
 use Rattle.monitor.proofs.Replies.{replies-two}
 use Rattle.trace.specs.AsRun.{recordsText}
@@ -20,7 +21,7 @@ use Rattle.packets.specs.Packet.{firstOf, packetAt}
 use Rattle.packets.specs.declared.packet.Packet.{Packet}
 use Rattle.packets.proofs.packet.AcceptedLaws.{packet-is}
 use Rattle.packets.proofs.packet.PacketLaws.{number-known}
-use Rattle.queue.specs.Queue.{Wake, callsIn, recordsOf, queueRefusal, Ran, endsAt, ranFrom}
+use Rattle.queue.specs.Queue.{Wake, callsIn, recordsOf, queueRefusal, Ran, endsAt, ranFrom, ranOf}
 
 -- the records of two lists of replies
 records-two : (n : ℕ) (a b : List Reply) → recordsText n (a ++ b) ≡ recordsText n a ++ recordsText (n + length a) b
@@ -56,6 +57,11 @@ second-refuses : (n k : ℕ) → n ≡ 0 → firstOf n k ≡ k
 second-refuses n k z = rw z
 
 module _ (m : MqttMonitor) (w : Wake) where
+  -- 10 before everything
+  pub formless : wellFormed m ≡ false → ranOf m w ≡ endsAt 10 0 []
+  unfolding ranOf
+  formless f = rw f
+
   -- 28, where the records up to the packet at a place do not fit
   abbrev roomNumber : ℕ → List Call → ℕ
   roomNumber place sent = cond (leb (length (recordsOf m (sent ++ callsIn w place))) (w .room)) 0 28

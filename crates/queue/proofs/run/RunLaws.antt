@@ -15,9 +15,9 @@ use Rattle.laws.proofs.Tests.{either}
 use Rattle.lines.specs.Wrote.{Wrote}
 use Rattle.lines.proofs.put.WroteLaws.{wrote-none, wrote-then, wrote-length, wrote-room}
 use Rattle.topics.specs.Matching.{matchesBy}
+use Rattle.monitor.specs.Gate.{gateOf}
 use Rattle.monitor.specs.Inspect.{applied, resultOf}
 use Rattle.monitor.specs.Message.{typeNumber}
-use Rattle.monitor.specs.Gate.{gateOf}
 use Rattle.monitor.specs.Plan.{gateIn, planOf}
 use Rattle.monitor.specs.Runs.{Call, Exact, shipped, afterBy, repliesBy}
 use Rattle.monitor.specs.State.{wellFormed, matcherOf}
@@ -43,7 +43,7 @@ use Rattle.queue.specs.Several.{lightText, lightAfter}
 use Rattle.queue.specs.declared.run.QueueEnd.{QueueEnd}
 use Rattle.queue.specs.declared.several.Counters.{Counters}
 use Rattle.queue.specs.declared.several.Rulebook.{Rulebook}
-use Rattle.queue.proofs.run.RanLaws.{records-join, left, left-end, left-stop, left-turn, refused-packet, refused-room, refused-none}
+use Rattle.queue.proofs.run.RanLaws.{records-join, formless, left, left-end, left-stop, left-turn, refused-packet, refused-room, refused-none}
 use Rattle.queue.proofs.several.LightLaws.{bookOf, book-after, countersOf, countedBy, asksNone, records-light, state-light}
 
 -- a list is neither a CONNECT nor a Publish
@@ -71,14 +71,10 @@ module _ (m₀ : MqttMonitor) (s : List ℕ) (time : ℕ) (ok : Bool) (d₀ : Li
   Ended d x = (x ≡ queueEnd m₀ wake) × (d ≡ queueKept m₀ wake d₀)
 
   -- 10 before everything
-  formless-run : wellFormed m₀ ≡ false → ranOf m₀ wake ≡ endsAt 10 0 []
-  unfolding ranOf
-  formless-run f = rw f
-
-  pub formless : wellFormed m₀ ≡ false → Ended d₀ (record { number = 10; place = 0; done = 0; length = 0; monitor = m₀ })
+  pub ill-formed : wellFormed m₀ ≡ false → Ended d₀ (record { number = 10; place = 0; done = 0; length = 0; monitor = m₀ })
   unfolding recordsText repliesBy afterBy
-  formless f =
-      let r = sym (formless-run f) in
+  ill-formed f =
+      let r = sym (formless m₀ wake f) in
       (ap (endOf m₀) r, ap (λ (x : Ran). sets d₀ 0 (recordsOf m₀ (x .sent))) r)
 
   -- the loop stands at a place, so many messages being done: `d` is its buffer, `p` its place there, and `m` the state

@@ -13,7 +13,7 @@ use Rattle.monitor.specs.State.{matcherOf, withCounters}
 use Rattle.monitor.proofs.inspection.ApplyLaws.{stored-yes, stored-no, withClients, withBuckets, withTrackers, stored-all}
 use Rattle.monitor.proofs.plan.PlanLaws.{composed}
 use Rattle.packets.specs.Taken.{topicBytes, payloadBytes, Within}
-use Rattle.queue.proofs.run.RunLaws.{Running, formless, run-start, run-long, run-place, run-over, run-stop, run-full, run-turn, few-here, run-gate, one-within, one-records, one-state}
+use Rattle.queue.proofs.run.RunLaws.{Running, ill-formed, run-start, run-long, run-place, run-over, run-stop, run-full, run-turn, few-here, run-gate, one-within, one-records, one-state}
 use Rattle.queue.proofs.run.RunLaws.{several-records, several-state}
 use Rattle.queue.proofs.run.run_packets.Statement.{statement}
 use Rattle.queue.proofs.run.run_packets.Tie as tie
@@ -97,7 +97,7 @@ well-formed-requires : tie.Need-well-formed-requires Inv-loop μ-loop
 well-formed-requires c κs = search needs
 
 returns : tie.Need-returns Inv-loop μ-loop
-returns c = formless _ _ _ _ _ (sym (c .before .well-formed .ensures) ∙ not-true _ (c .if1 .taken))
+returns c = ill-formed _ _ _ _ _ (sym (c .before .well-formed .ensures) ∙ not-true _ (c .if1 .taken))
 
 loop-holds : tie.Need-loop-holds Inv-loop μ-loop
 loop-holds c = run-start _ _ _ _ _ (sym (c .before .before .well-formed .ensures) ∙ not-false _ (c .before .if1 .left))
