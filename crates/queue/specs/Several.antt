@@ -1,5 +1,5 @@
 -- The messages of a packet that has several, one after the other: they ask no table, so what they print follows from the rules and the counters, and only the counters change. That this is what
--- inspecting them singly prints and changes is a law (proofs/several/SeveralLaws.antt); the run's own definition (Queue.antt) does not speak of it.
+-- inspecting them singly prints and changes is a law (proofs/several/LightLaws.antt); the run's own definition (Queue.antt) does not speak of it.
 -- Assumes nothing.
 use mathlib.Core.List.{List, [], _∷_, _++_}
 use Prim.Native.Nat.{ℕ, _+_}

@@ -42,9 +42,9 @@ pub record Singly (m : MqttMonitor) (w : Wake) : Type 0 where
   pub behind : (d : List ℕ) → length d ≡ w .room → queueKept m w d ≡ recordsOf m (sentOf m w) ++ drop (length (recordsOf m (sentOf m w))) d
   -- 10 comes before everything, and nothing is done then
   pub formless : wellFormed m ≡ false → ranOf m w ≡ endsAt 10 0 []
-  -- any other run is whole, and has come to the end of the bytes
+  -- a run that is whole has come to the end of the bytes
   pub whole : ranOf m w .number ≡ 0 → ranOf m w .place ≡ length (w .bytes)
-  -- or it ended at a packet that is refused, by what refuses it after the messages before it: 31, 32 or 33, and else 28
+  -- any other ended at a packet that is refused, by what refuses it after the messages before it: 31, 32 or 33, and else 28
   pub ended :
       wellFormed m ≡ true → (ranOf m w .number ≡ 0 → ⊥)
       → (ranOf m w .place < length (w .bytes)) × (queueRefusal m w (ranOf m w .place) (sentOf m w) ≡ ranOf m w .number)
