@@ -23,6 +23,6 @@ choose P false f g = g refl
 pub whichever : {A : Type 0} (P : A → Type 0) (t : Bool) {x y : A} → P x → P y → P (cond t x y)
 whichever P t p q = choose P t (λ _. p) (λ _. q)
 
--- a test does not both hold and fail; request C-11 waits for it
+-- a test does not both hold and fail
 pub clash : {P : Type 0} {t : Bool} → t ≡ true → t ≡ false → P
 clash t f = absurd (false≢true (sym f ∙ t))

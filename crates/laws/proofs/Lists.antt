@@ -1,12 +1,13 @@
--- Laws of parts of lists and of lists with one element stored, whatever the elements are. `d` is what is read past a list's end. Assumes nothing.
-use mathlib.Core.List.{List}
+-- Laws of parts of lists and of lists with one element stored, whatever the elements are; and of bytes with zeros after them. `d` is what is read past a list's end. Assumes nothing.
+use mathlib.Core.List.{List, [], _∷_, _++_}
 use mathlib.Core.Path.{_≡_, sym, _∙_}
-use Prim.Native.Nat.{ℕ, _-_, _<_, min}
+use Prim.Native.Nat.{ℕ, zero, suc, _+_, _-_, _<_, _≤_, min}
+use native.Mathlib.Numerals.{add-one}
 use native.Mathlib.Omega.{arith}
 use borrow.Author.Tests.{leb-true, leb-false, eqb-true, eqb-false}
 use lib.Dec.{eqb, leb}
-use lib.ListN.{length, take, drop, getD, set, length-drop}
-use lib.Seq.{take-all, getD-set-same, getD-set-other}
+use lib.ListN.{length, take, drop, getD, set, replicate, length-drop}
+use lib.Seq.{take-all, take-suc, append-snoc, set-at, length-take-le, getD-set-same, getD-set-other}
 use Rattle.laws.proofs.Cases.{by}
 
 module _ {A : Type 0} where
@@ -24,6 +25,12 @@ module _ {A : Type 0} where
   -- a slice from k on, as code reads it, is what is left after k
   pub tail-whole : (s : List A) (k : ℕ) → take (length s - k) (drop k s) ≡ drop k s
   tail-whole s k = take-all (length s - k) (drop k s) (omega (arith, length-drop k s))
+
+  -- what is left of a list of equal elements
+  pub drop-replicate : (k n : ℕ) (x : A) → drop k (replicate n x) ≡ replicate (n - k) x
+  drop-replicate zero n x = let e : n - 0 ≡ n = omega arith in rw e
+  drop-replicate (suc k) zero x = let e : 0 - suc k ≡ 0 = omega arith in rw e
+  drop-replicate (suc k) (suc n) x = let e : suc n - suc k ≡ n - k = omega arith in rw e (drop-replicate k n x)
 
 -- after a store
 module _ {A : Type 0} (d : A) (l : List A) (k : ℕ) (x : A) (h : k < length l) where
@@ -43,3 +50,16 @@ module _ {A : Type 0} (d : A) (l : List A) (k : ℕ) (x : A) (h : k < length l) 
       (each (λ j v. k < j → j < n → R x v) (λ h m. absurd (omega arith)) (λ j e h m. after j h m) j)
       (λ i f. each (λ j v. i < j → j < n → R (getD l i d) v) (λ h m. before i h m) (λ j e h m. rest i j f e h m) j)
       i
+
+-- bytes with zeros after them up to a size: one byte more
+pub padded-more : (size : ℕ) (p : List ℕ) (i : ℕ) → i < length p → i < size → set (take i p ++ replicate (size - i) 0) i (getD p i 0) ≡ take (i + 1) p ++ replicate (size - (i + 1)) 0
+padded-more size p i h k =
+    let e : size - i ≡ suc (size - (i + 1)) = omega arith in
+    let more : take (i + 1) p ≡ take i p ++ (getD p i 0 ∷ []) = rw (add-one) (take-suc p i 0 h) in
+    rw (e, set-at (take i p) 0 (replicate (size - (i + 1)) 0) (getD p i 0) i (length-take-le i p (omega arith)))
+    (rw more (sym (append-snoc (take i p) (getD p i 0) (replicate (size - (i + 1)) 0))))
+
+-- bytes, zeros after them up to a size: all of them
+pub padded-done : (size : ℕ) (p : List ℕ) (i : ℕ) → length p ≤ size → i ≡ length p → take i p ++ replicate (size - i) 0 ≡ take size p ++ replicate (size - length p) 0
+padded-done size p i h e =
+    let z : size - i ≡ size - length p = omega arith in rw (z, take-all i p (omega arith), take-all size p h)

@@ -1,4 +1,5 @@
 pub mod Buckets
+pub mod Covers
 pub mod Identity
 pub mod Numbers
 pub mod Rules

@@ -49,14 +49,14 @@ unfoldable pub firstRule : (List ℕ → List ℕ → Bool) → List ℕ → Lis
 firstRule matcher topic rules n = find (λ r. r .active && matcher topic (patternOf r)) (take n rules)
 
 -- one of the earlier rules matches a pattern, read as a topic: as the Rust does, whatever matcher the rules are chosen by
-unfoldable pub covered : List ℕ → List TopicRule → Bool
-covered p [] = false
-covered p (e ∷ es) = (e .active && portMatches p (patternOf e)) || covered p es
+unfoldable pub shadowed : List ℕ → List TopicRule → Bool
+shadowed p [] = false
+shadowed p (e ∷ es) = (e .active && portMatches p (patternOf e)) || shadowed p es
 
 -- the rules after those `before` whose pattern an earlier one matches; each counts once
 unfoldable pub shadowedAfter : List TopicRule → List TopicRule → ℕ
 shadowedAfter before [] = 0
-shadowedAfter before (r ∷ rs) = cond (r .active && covered (patternOf r) before) 1 0 + shadowedAfter (before ++ (r ∷ [])) rs
+shadowedAfter before (r ∷ rs) = cond (r .active && shadowed (patternOf r) before) 1 0 + shadowedAfter (before ++ (r ∷ [])) rs
 
 -- the shadow count
 abbrev pub shadowCount : List TopicRule → ℕ → ℕ

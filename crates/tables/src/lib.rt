@@ -2,6 +2,7 @@
 // (document 01, "Buckets", "CONNECT windows and payload trackers", `add_rule`). Deciders take one table and hand back the place and the new record;
 // the monitor above stores it.
 pub mod buckets;
+pub mod covers;
 pub mod identity;
 pub mod rules;
 pub mod standing;

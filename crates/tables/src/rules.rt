@@ -359,7 +359,7 @@ fn shadows(earlier: TopicRule, later: TopicRule) -> bool
     takes(earlier, &pattern[..n], Matching::Port)
 }
 
-// How many rules an earlier one shadows. The search for a later rule ends at the first earlier one that covers it, so that it counts once
+// How many rules an earlier one shadows. The search for a later rule ends at the first earlier one that shadows it, so that it counts once
 // (document 01, `add_rule`).
 pub fn shadow_count(rules: [TopicRule; RULES], count: usize) -> u16
     ensures { λ r. ⌜ r ≡ shadowCount rules count ⌝ }

@@ -1,4 +1,5 @@
--- Levels split and join: joined by slashes the levels of a text are the text again, and no level holds a slash. Request C-20, which makes names of levels, waits for them. Assumes nothing.
+-- Levels split and join: joined by slashes the levels of a text are the text again, and no level holds a slash. So `levels` is the cut that it is meant to be; no other proof asks for this.
+-- Assumes nothing.
 use mathlib.Core.Bool.{false}
 use mathlib.Core.List.{List, [], _∷_, List·Memᴰ, List·Memᴰ·cases-cons, List·Memᴰ·not-nil}
 use mathlib.Core.Logic.{⊎-elim}

@@ -1,3 +1,5 @@
+pub mod Covered
+pub mod Covering
 pub mod Encoding
 pub mod Hashes
 pub mod Levels

@@ -139,7 +139,7 @@ pub fn matches_with(topic: &[u8], pattern: &[u8], empty_last: bool, dollar: bool
 }
 
 // Both flags of a choice.
-fn is_standard(matching: Matching) -> bool
+pub fn is_standard(matching: Matching) -> bool
     ensures { λ r. ⌜ r ≡ isStandard matching ⌝ }
 {
     match matching {

@@ -1,4 +1,4 @@
--- The shadow count by two loops: the outer passes the rules in order, the inner asks the earlier ones until one covers. First what one pass of the inner
+-- The shadow count by two loops: the outer passes the rules in order, the inner asks the earlier ones until one shadows it. First what one pass of the inner
 -- loop learns, then what one turn of the outer counts. Assumes nothing.
 use mathlib.Core.Bool.{Bool, true, false, cond, _&&_, _||_, false≢true, true≢false, and-false}
 use mathlib.Core.List.{List, _∷_}
@@ -10,11 +10,11 @@ use lib.ListN.{length, take, drop, getD, length-take, drop-of-length-le}
 use lib.Seq.{drop-cons, take-suc, getD-take, length-take-le}
 use Rattle.topics.specs.Matching.{portMatches}
 use Rattle.tables.specs.declared.rules.TopicRule.{TopicRule}
-use Rattle.tables.specs.Rules.{patternOf, covered, shadowedAfter, shadowCount, noRule}
+use Rattle.tables.specs.Rules.{patternOf, shadowed, shadowedAfter, shadowCount, noRule}
 
 -- a rule is live and one of the earlier ones takes its pattern
 abbrev pub hidden : TopicRule → List TopicRule → Bool
-hidden later earlier = later .active && covered (patternOf later) earlier
+hidden later earlier = later .active && shadowed (patternOf later) earlier
 
 -- an earlier rule takes the pattern of a live one, as `shadows` answers
 abbrev pub hides : TopicRule → TopicRule → Bool
@@ -37,21 +37,21 @@ module _ (later : TopicRule) (rules : List TopicRule) (i at : ℕ) (fits : at �
       let m = length-take-le at rules fits in
       rw (add-one, drop-cons (take at rules) i noRule (omega arith), getD-take at rules i noRule h)
 
-  -- it covers: the rule is hidden
+  -- it shadows: the rule is hidden
   pub hidden-here : i < at → hidden later (drop i (take at rules)) ≡ hidden later (take at rules) → hides (getD rules i noRule) later ≡ true
       → hidden later (take at rules) ≡ true
-  unfolding covered
+  unfolding shadowed
   hidden-here h inv e = sym inv ∙ rw (opened h) (or-here (later .active) _ _ e)
 
   -- it does not: as the rest says
   pub hidden-next : i < at → hidden later (drop i (take at rules)) ≡ hidden later (take at rules) → hides (getD rules i noRule) later ≡ false
       → hidden later (drop (i + 1) (take at rules)) ≡ hidden later (take at rules)
-  unfolding covered
+  unfolding shadowed
   hidden-next h inv e = sym (rw (opened h) (or-next (later .active) _ _ e)) ∙ inv
 
   -- none is left: it is not hidden
   pub hidden-end : at ≤ i → hidden later (drop i (take at rules)) ≡ hidden later (take at rules) → hidden later (take at rules) ≡ false
-  unfolding covered
+  unfolding shadowed
   hidden-end h inv =
       let m = length-take-le at rules fits in
       sym inv ∙ rw (drop-of-length-le (take at rules) {i = i} (omega arith)) (and-false (later .active))

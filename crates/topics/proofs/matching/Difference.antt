@@ -17,7 +17,7 @@ neither true b m = sym (and-false m)
 neither false b m = refl
 
 -- for all levels
-difference : (ts ps : List (List ℕ)) → matchLevels false ts ps ≡ (matchLevels true ts ps && not (plusAtEmptyLast ts ps))
+pub difference : (ts ps : List (List ℕ)) → matchLevels false ts ps ≡ (matchLevels true ts ps && not (plusAtEmptyLast ts ps))
 unfolding matchLevels plusAtEmptyLast
 difference [] [] = refl
 difference [] (p ∷ ps) = sym (and-true _)

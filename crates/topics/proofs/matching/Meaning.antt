@@ -41,21 +41,21 @@ unfolding restLevels fromSlash
 rest-from [] = refl
 rest-from (c ∷ t) = by (eqb c 47) (λ e. rw (e, fromSlash)) (λ e. rw (e, fromSlash, restLevels) (rest-from t))
 
-some-level : (x : ℕ) (t : List ℕ) → (none (firstLevel (x ∷ t)) && none (restLevels (x ∷ t))) ≡ false
+pub some-level : (x : ℕ) (t : List ℕ) → (none (firstLevel (x ∷ t)) && none (restLevels (x ∷ t))) ≡ false
 unfolding firstLevel restLevels
 some-level x t = by (eqb x 47) (λ e. rw (e, firstLevel, restLevels)) (λ e. rw (e, firstLevel))
 
 -- levels of a pattern
-ended : (p : List ℕ) → levelEnds p ≡ true → firstLevel p ≡ []
+pub ended : (p : List ℕ) → levelEnds p ≡ true → firstLevel p ≡ []
 unfolding firstLevel
 ended [] u = refl
 ended (c ∷ p) u = rw (u, firstLevel)
 
-not-wild : (w c : ℕ) (p : List ℕ) → eqb c 47 ≡ false → eqb c w ≡ false → same (w ∷ []) (firstLevel (c ∷ p)) ≡ false
+pub not-wild : (w c : ℕ) (p : List ℕ) → eqb c 47 ≡ false → eqb c w ≡ false → same (w ∷ []) (firstLevel (c ∷ p)) ≡ false
 unfolding firstLevel same
 not-wild w c p s h = rw (s, firstLevel, turned c w h)
 
-begins-hash : (p : List ℕ) → placed true p ≡ true → startsWith 35 p ≡ isHash (firstLevel p)
+pub begins-hash : (p : List ℕ) → placed true p ≡ true → startsWith 35 p ≡ isHash (firstLevel p)
 unfolding placed firstLevel same
 begins-hash [] u = refl
 begins-hash (c ∷ p) u = cases (sort c) p u

@@ -25,7 +25,7 @@ refused-empty [] e = refl
 refused-empty (c ∷ p) e = absurd (omega arith)
 
 -- a list with an element is not empty
-some-none : (p : List ℕ) → 1 ≤ length p → none p ≡ false
+pub some-none : (p : List ℕ) → 1 ≤ length p → none p ≡ false
 some-none [] l = absurd (omega arith)
 some-none (c ∷ p) l = refl
 
@@ -77,7 +77,7 @@ past true k a h e = absurd (omega arith)
 past false k a h e = (refl, e)
 
 -- a list that is not empty has an element
-none-some : (p : List ℕ) → none p ≡ false → 1 ≤ length p
+pub none-some : (p : List ℕ) → none p ≡ false → 1 ≤ length p
 none-some [] e = never (sym e)
 none-some (c ∷ p) e = omega arith
 
@@ -109,6 +109,10 @@ accepted-length p e = (accepted p e .some, accepted p e .short)
 -- an accepted pattern's wildcards are well placed
 pub accepted-placed : (p : List ℕ) → patternRefusal p ≡ 0 → wellPlaced (levels p) ≡ true
 accepted-placed p e = accepted p e .well-placed
+
+-- an accepted pattern has no zero byte
+pub accepted-zero : (p : List ℕ) → patternRefusal p ≡ 0 → has 0 p ≡ false
+accepted-zero p e = accepted p e .no-zero
 
 -- an accepted pattern is a string that a client may send
 pub accepted-sendable : (p : List ℕ) → patternRefusal p ≡ 0 → Sendable p

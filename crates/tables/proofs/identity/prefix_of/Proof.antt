@@ -6,7 +6,8 @@ use Prim.Native.Nat.{_≤_, _-_}
 use native.Mathlib.Omega.{arith}
 use lib.ListN.{take, replicate}
 use borrow.Author.Needs.{needs}
-use Rattle.tables.proofs.identity.PrefixLaws.{padded-more, prefix-done}
+use Rattle.laws.proofs.Lists.{padded-more}
+use Rattle.tables.proofs.identity.PrefixLaws.{prefix-done}
 use Rattle.tables.proofs.identity.prefix_of.Statement.{statement}
 use Rattle.tables.proofs.identity.prefix_of.Tie as tie
 

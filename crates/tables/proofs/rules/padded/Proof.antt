@@ -6,7 +6,7 @@ use Prim.Native.Nat.{_≤_, _-_}
 use native.Mathlib.Omega.{arith}
 use borrow.Author.Needs.{needs}
 use lib.ListN.{length, take, replicate}
-use Rattle.tables.proofs.identity.PrefixLaws.{padded-more, padded-done}
+use Rattle.laws.proofs.Lists.{padded-more, padded-done}
 use Rattle.tables.proofs.rules.padded.Statement.{statement}
 use Rattle.tables.proofs.rules.padded.Tie as tie
 

@@ -1,0 +1,2 @@
+mod CoverLaws
+pub mod ReportLaws
