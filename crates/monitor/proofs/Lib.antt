@@ -1,5 +1,6 @@
 pub mod Acts
 pub mod Chosen
+pub mod Covered
 pub mod Denied
 pub mod FoundLaws
 pub mod Four

@@ -2,6 +2,8 @@ pub mod Acts
 pub mod Alerts
 pub mod Calls
 pub mod Chosen
+pub mod Covered
+pub mod Covers
 pub mod Gate
 pub mod Inspect
 pub mod Light

@@ -3,6 +3,7 @@
 // own old value, and the stores come last, in one body. `trace::run::pass` and `loops` own their state and do the same stores in theirs.
 pub mod alerts;
 pub mod calls;
+pub mod cover_calls;
 pub mod gate;
 pub mod inspection;
 pub mod message;

@@ -72,6 +72,10 @@ use Rattle.monitor.proofs.standing.standing as standing-standing
 use Rattle.monitor.proofs.standing.standing.Reads as standing-standing-reads
 use Rattle.monitor.proofs.standing.tokens_left as standing-tokens-left
 use Rattle.monitor.proofs.standing.tokens_left.Reads as standing-tokens-left-reads
+use Rattle.monitor.proofs.cover_calls.covered_rules as cover-calls-covered-rules
+use Rattle.monitor.proofs.cover_calls.covered_rules.Reads as cover-calls-covered-rules-reads
+use Rattle.monitor.proofs.cover_calls.later_name as cover-calls-later-name
+use Rattle.monitor.proofs.cover_calls.later_name.Reads as cover-calls-later-name-reads
 use Rattle.theorems.specs.One.{Any, One}
 
 pub one-alerts-severity-number : One alerts-severity-number.ended alerts-severity-number-reads.Post
@@ -289,3 +293,15 @@ one-standing-tokens-left κs a x y e f p q = p ∙ sym q
 
 pub any-standing-tokens-left : Any standing-tokens-left.ended standing-tokens-left-reads.Asked
 any-standing-tokens-left κs a = tt
+
+pub one-cover-calls-covered-rules : One cover-calls-covered-rules.ended cover-calls-covered-rules-reads.Post
+one-cover-calls-covered-rules κs a x y e f p q = p ∙ sym q
+
+pub any-cover-calls-covered-rules : Any cover-calls-covered-rules.ended cover-calls-covered-rules-reads.Asked
+any-cover-calls-covered-rules κs a = tt
+
+pub one-cover-calls-later-name : One cover-calls-later-name.ended cover-calls-later-name-reads.Post
+one-cover-calls-later-name κs a x y e f p q = p ∙ sym q
+
+pub any-cover-calls-later-name : Any cover-calls-later-name.ended cover-calls-later-name-reads.Asked
+any-cover-calls-later-name κs a = tt

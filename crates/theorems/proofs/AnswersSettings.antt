@@ -15,6 +15,10 @@ use Rattle.settings.proofs.told.tell_settings as told-tell-settings
 use Rattle.settings.proofs.told.tell_settings.Reads as told-tell-settings-reads
 use Rattle.settings.proofs.told.turn_settings as told-turn-settings
 use Rattle.settings.proofs.told.turn_settings.Reads as told-turn-settings-reads
+use Rattle.settings.proofs.dead.tell_dead as dead-tell-dead
+use Rattle.settings.proofs.dead.tell_dead.Reads as dead-tell-dead-reads
+use Rattle.settings.proofs.dead.tell_pair as dead-tell-pair
+use Rattle.settings.proofs.dead.tell_pair.Reads as dead-tell-pair-reads
 use Rattle.theorems.specs.One.{Any, One, OneLeft}
 
 pub one-read-read-settings : One read-read-settings.ended read-read-settings-reads.Post
@@ -58,3 +62,15 @@ one-told-turn-settings κs a x y e f p q = (p .0 ∙ sym (q .0), p .1 .0 ∙ sym
 
 pub any-told-turn-settings : Any told-turn-settings.ended told-turn-settings-reads.Asked
 any-told-turn-settings κs a = tt
+
+pub one-dead-tell-dead : OneLeft dead-tell-dead.ended dead-tell-dead-reads.Post (λ κs e. now (e .1 .0))
+one-dead-tell-dead κs a x y e f p q = (p .0 ∙ sym (q .0), p .1 .0 ∙ sym (q .1 .0))
+
+pub any-dead-tell-dead : Any dead-tell-dead.ended dead-tell-dead-reads.Asked
+any-dead-tell-dead κs a = tt
+
+pub one-dead-tell-pair : OneLeft dead-tell-pair.ended dead-tell-pair-reads.Post (λ κs e. now (e .1 .1 .1 .0))
+one-dead-tell-pair κs a x y e f p q = (p .0 ∙ sym (q .0), p .1 .0 ∙ sym (q .1 .0))
+
+pub any-dead-tell-pair : Any dead-tell-pair.ended dead-tell-pair-reads.Asked
+any-dead-tell-pair κs a = tt

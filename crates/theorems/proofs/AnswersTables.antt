@@ -92,6 +92,10 @@ use Rattle.tables.proofs.standing.taken as standing-taken
 use Rattle.tables.proofs.standing.taken.Reads as standing-taken-reads
 use Rattle.tables.proofs.standing.oldest_live as standing-oldest-live
 use Rattle.tables.proofs.standing.oldest_live.Reads as standing-oldest-live-reads
+use Rattle.tables.proofs.covers.rule_witness as covers-rule-witness
+use Rattle.tables.proofs.covers.rule_witness.Reads as covers-rule-witness-reads
+use Rattle.tables.proofs.covers.cover_report as covers-cover-report
+use Rattle.tables.proofs.covers.cover_report.Reads as covers-cover-report-reads
 use Rattle.theorems.specs.One.{Out, Any, One, OneLeft, Says, AsksNothing}
 
 pub one-buckets-consume : One buckets-consume.ended buckets-consume-reads.Post
@@ -370,3 +374,15 @@ one-standing-oldest-live κs a x y e f p q = p ∙ sym q
 
 pub any-standing-oldest-live : Any standing-oldest-live.ended standing-oldest-live-reads.Asked
 any-standing-oldest-live κs a = tt
+
+pub one-covers-rule-witness : One covers-rule-witness.ended covers-rule-witness-reads.Post
+one-covers-rule-witness κs a x y e f p q = p ∙ sym q
+
+pub any-covers-rule-witness : Any covers-rule-witness.ended covers-rule-witness-reads.Asked
+any-covers-rule-witness κs a = tt
+
+pub one-covers-cover-report : One covers-cover-report.ended covers-cover-report-reads.Post
+one-covers-cover-report κs a x y e f p q = p ∙ sym q
+
+pub any-covers-cover-report : Any covers-cover-report.ended covers-cover-report-reads.Asked
+any-covers-cover-report κs a = tt

@@ -40,6 +40,12 @@ use Rattle.topics.proofs.shown.is_readable as shown-is-readable
 use Rattle.topics.proofs.shown.is_readable.Reads as shown-is-readable-reads
 use Rattle.topics.proofs.shown.shown_byte as shown-shown-byte
 use Rattle.topics.proofs.shown.shown_byte.Reads as shown-shown-byte-reads
+use Rattle.topics.proofs.covering.find_witness as covering-find-witness
+use Rattle.topics.proofs.covering.find_witness.Reads as covering-find-witness-reads
+use Rattle.topics.proofs.covering.covers as covering-covers
+use Rattle.topics.proofs.covering.covers.Reads as covering-covers-reads
+use Rattle.topics.proofs.matching.is_standard as matching-is-standard
+use Rattle.topics.proofs.matching.is_standard.Reads as matching-is-standard-reads
 use Rattle.theorems.specs.One.{Any, One}
 
 pub one-hashes-wrapping-mul32 : One hashes-wrapping-mul32.ended hashes-wrapping-mul32-reads.Post
@@ -161,3 +167,21 @@ one-shown-shown-byte κs a x y e f p q = p ∙ sym q
 
 pub any-shown-shown-byte : Any shown-shown-byte.ended shown-shown-byte-reads.Asked
 any-shown-shown-byte κs a = tt
+
+pub one-covering-find-witness : One covering-find-witness.ended covering-find-witness-reads.Post
+one-covering-find-witness κs a x y e f p q = p ∙ sym q
+
+pub any-covering-find-witness : Any covering-find-witness.ended covering-find-witness-reads.Asked
+any-covering-find-witness κs a = tt
+
+pub one-covering-covers : One covering-covers.ended covering-covers-reads.Post
+one-covering-covers κs a x y e f p q = p ∙ sym q
+
+pub any-covering-covers : Any covering-covers.ended covering-covers-reads.Asked
+any-covering-covers κs a = tt
+
+pub one-matching-is-standard : One matching-is-standard.ended matching-is-standard-reads.Post
+one-matching-is-standard κs a x y e f p q = p ∙ sym q
+
+pub any-matching-is-standard : Any matching-is-standard.ended matching-is-standard-reads.Asked
+any-matching-is-standard κs a = tt

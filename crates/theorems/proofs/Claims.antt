@@ -1,9 +1,12 @@
 -- All that we claim, gathered from the files that prove it. Assumes nothing.
+use Rattle.topics.proofs.covering.Counted.{old-count-meets}
+use Rattle.topics.proofs.covering.Exact.{covers-exactly}
 use Rattle.topics.proofs.matching.Difference.{port-differs}
 use Rattle.topics.proofs.matching.Meaning.{meaning}
 use Rattle.topics.proofs.utf8.Decoded.{exactly}
 use Rattle.lines.proofs.Round.{round}
 use Rattle.monitor.proofs.Chosen.{chosen}
+use Rattle.monitor.proofs.Covered.{covered}
 use Rattle.monitor.proofs.Denied.{denied-by-kind}
 use Rattle.monitor.proofs.Four.{four-at-most, none-dropped}
 use Rattle.monitor.proofs.Light.{light}
@@ -24,6 +27,7 @@ use Rattle.theorems.proofs.Exactness.{exactness}
 use Rattle.theorems.proofs.Guider.{guider-runs}
 use Rattle.theorems.proofs.Loop.{loop-limits}
 use Rattle.theorems.proofs.Lower.{lower-first, lower-later}
+use Rattle.theorems.proofs.OldCount.{old-count-wrong}
 use Rattle.theorems.proofs.Printed.{printed-limits}
 use Rattle.theorems.proofs.Queued.{queued-limits}
 use Rattle.theorems.proofs.RemovalRuns.{removal-runs}
@@ -76,6 +80,10 @@ claims =
       total = total-is-sum;
       meaning = meaning;
       difference = port-differs;
+      covers-exactly = covers-exactly;
+      covered = covered;
+      old-count = old-count-meets;
+      old-count-wrong = old-count-wrong;
       utf8 = exactly;
       round = round;
       corners = corners;

@@ -14,7 +14,7 @@ use Rattle.topics.specs.Patterns.{wellPlaced, patternRefusal}
 use Rattle.topics.specs.Utf8.{begun, taken, isUtf8}
 use Rattle.tables.specs.Buckets.{refilled, spend, isExpired, holdsBucket, newcomer, decide}
 use Rattle.tables.specs.Identity.{prefixOf, idOf, isOf}
-use Rattle.tables.specs.Rules.{qosOk, ruleFine, equalRule, firstRule, covered, shadowedAfter, rulePlan}
+use Rattle.tables.specs.Rules.{qosOk, ruleFine, equalRule, firstRule, shadowed, shadowedAfter, rulePlan}
 use Rattle.tables.specs.Scan.{find, leastOf}
 use Rattle.monitor.specs.Alerts.{severityOf, hashOf, kindsOf, raise, raiseAll}
 use Rattle.monitor.specs.Calls.{fresh, addRule}
@@ -55,7 +55,7 @@ record Lost : Type 0 where
 
 lost : Lost
 unfolding matchBytes fromSlash takesNone takesEnd firstLevel restLevels same has wellPlaced countOf patternRefusal isUtf8 taken begun fnv1a djb2 suffixHash prefixOf idOf
-    isOf find leastOf refilled spend isExpired holdsBucket newcomer decide qosOk ruleFine equalRule firstRule covered shadowedAfter severityOf hashOf
+    isOf find leastOf refilled spend isExpired holdsBucket newcomer decide qosOk ruleFine equalRule firstRule shadowed shadowedAfter severityOf hashOf
     kindsOf raise raiseAll fresh rulePlan addRule rulingOf gateAfter gateOf applied inspectRefusal inspectWith seenOf spentOf fedOf denialOf planFrom
     planOf every wellFormed afterBy firstRate rateOf reaches isAmong arrived passedBy hub publish leavesNone lossySpend lossyDecide lossyPlan lossy
     every400ms guider
@@ -77,7 +77,7 @@ lossy-inexact exact =
 
 pub guider-runs : Guider
 unfolding matchBytes fromSlash takesNone takesEnd firstLevel restLevels same has wellPlaced countOf patternRefusal isUtf8 taken begun fnv1a djb2 suffixHash prefixOf idOf
-    isOf find leastOf refilled spend isExpired holdsBucket newcomer decide qosOk ruleFine equalRule firstRule covered shadowedAfter severityOf hashOf
+    isOf find leastOf refilled spend isExpired holdsBucket newcomer decide qosOk ruleFine equalRule firstRule shadowed shadowedAfter severityOf hashOf
     kindsOf raise raiseAll fresh rulePlan addRule rulingOf gateAfter gateOf applied inspectRefusal inspectWith seenOf spentOf fedOf denialOf planFrom
     planOf every wellFormed hub publish lossySpend lossyDecide lossyPlan lossy every400ms guider verdicts
 guider-runs = record { four-of-five = refl; one-of-two = refl; lossy-inexact = lossy-inexact }

@@ -31,6 +31,7 @@ mod Holders
 mod Loop
 mod Lower
 mod LowerExact
+mod OldCount
 mod Printed
 mod Queued
 mod Reach

@@ -11,7 +11,7 @@ use Rattle.topics.specs.Patterns.{wellPlaced, patternRefusal}
 use Rattle.topics.specs.Utf8.{begun, taken, isUtf8}
 use Rattle.tables.specs.Buckets.{refilled, spend, isExpired, holdsBucket, newcomer, decide, removedBucket}
 use Rattle.tables.specs.Identity.{prefixOf, idOf, isOf, isRemoved}
-use Rattle.tables.specs.Rules.{qosOk, ruleFine, equalRule, firstRule, covered, shadowedAfter, rulePlan}
+use Rattle.tables.specs.Rules.{qosOk, ruleFine, equalRule, firstRule, shadowed, shadowedAfter, rulePlan}
 use Rattle.tables.specs.Scan.{find, leastOf}
 use Rattle.monitor.specs.Acts.{afterActs, messages, othersIn}
 use Rattle.monitor.specs.Alerts.{severityOf, hashOf, kindsOf, raise, raiseAll}
@@ -29,7 +29,7 @@ use Rattle.theorems.proofs.Tight.{hub-prepared}
 
 pub removal-runs : RemovalRuns
 unfolding matchBytes fromSlash takesNone takesEnd firstLevel restLevels same has wellPlaced countOf patternRefusal isUtf8 taken begun fnv1a djb2 suffixHash prefixOf idOf
-    isOf isRemoved find leastOf refilled spend isExpired holdsBucket newcomer decide removedBucket qosOk ruleFine equalRule firstRule covered shadowedAfter severityOf hashOf
+    isOf isRemoved find leastOf refilled spend isExpired holdsBucket newcomer decide removedBucket qosOk ruleFine equalRule firstRule shadowed shadowedAfter severityOf hashOf
     kindsOf raise raiseAll fresh rulePlan addRule removeBucket rulingOf gateAfter gateOf applied inspectRefusal inspectWith seenOf spentOf fedOf denialOf planFrom
     planOf every wellFormed afterActs messages othersIn passedIn firstRate rateOf reaches hub publish crowd once twice
 removal-runs =

@@ -24,7 +24,7 @@ use Rattle.lines.specs.Span.{spanOf}
 use Rattle.lines.specs.Word.{firstWord, restWords}
 use Rattle.tables.specs.Buckets.{refilled, spend, isExpired, holdsBucket, newcomer, decide}
 use Rattle.tables.specs.Identity.{prefixOf, idOf, isOf}
-use Rattle.tables.specs.Rules.{qosOk, ruleFine, equalRule, firstRule, covered, shadowedAfter, rulePlan}
+use Rattle.tables.specs.Rules.{qosOk, ruleFine, equalRule, firstRule, shadowed, shadowedAfter, rulePlan}
 use Rattle.tables.specs.Scan.{find, leastOf}
 use Rattle.tables.specs.declared.rules.QosPolicy.the-variants.{Any}
 use Rattle.tables.specs.declared.rules.TopicAction.the-variants.{Allow}
@@ -72,7 +72,7 @@ record Facts : Type 0 where
 
 facts : Facts
 unfolding matchBytes fromSlash takesNone takesEnd firstLevel restLevels same has wellPlaced countOf patternRefusal isUtf8 taken begun fnv1a djb2 suffixHash prefixOf idOf
-    isOf find leastOf refilled spend isExpired holdsBucket newcomer decide qosOk ruleFine equalRule firstRule covered shadowedAfter severityOf hashOf
+    isOf find leastOf refilled spend isExpired holdsBucket newcomer decide qosOk ruleFine equalRule firstRule shadowed shadowedAfter severityOf hashOf
     kindsOf raise raiseAll fresh rulePlan addRule rulingOf gateAfter gateOf applied inspectRefusal inspectWith seenOf spentOf fedOf denialOf planFrom
     planOf every wellFormed firstRate rateOf reaches hub publish isAmong arrived
 facts =
@@ -175,18 +175,18 @@ invented-alert f meets h =
     ap (λ (r : Inspected). r .result .«alert_count») (meets (hub 2) message) in
     omega (arith, h (hub 2) message, e, facts .quiet)
 
--- a monitor with one more rule, which the first covers
-abbrev shadowed : MqttMonitor
-shadowed = addRule (hub 2) (bytes "m/a") Allow Any 2 .monitor
+-- a monitor with one more rule, which the first shadows
+abbrev crowded : MqttMonitor
+crowded = addRule (hub 2) (bytes "m/a") Allow Any 2 .monitor
 
 -- the count that an outcome hands back
 abbrev count : Outcome → ℕ
 count (Done n) = n
 count (Refused n) = 0
 
-shadows : (validateRules (hub 2) ≡ Done 0) × (validateRules shadowed ≡ Done 1)
+shadows : (validateRules (hub 2) ≡ Done 0) × (validateRules crowded ≡ Done 1)
 unfolding matchBytes fromSlash takesNone takesEnd firstLevel restLevels same has wellPlaced countOf patternRefusal isUtf8 taken begun fnv1a djb2 suffixHash prefixOf idOf
-    isOf find leastOf refilled spend isExpired holdsBucket newcomer decide qosOk ruleFine equalRule firstRule covered shadowedAfter severityOf hashOf
+    isOf find leastOf refilled spend isExpired holdsBucket newcomer decide qosOk ruleFine equalRule firstRule shadowed shadowedAfter severityOf hashOf
     kindsOf raise raiseAll fresh rulePlan addRule rulingOf gateAfter gateOf applied inspectRefusal inspectWith seenOf spentOf fedOf denialOf planFrom
     planOf every wellFormed firstRate rateOf reaches hub publish validateRules
 shadows = (refl, refl)
@@ -194,7 +194,7 @@ shadows = (refl, refl)
 invented-shadow : (v : MqttMonitor → Outcome) → ((m : MqttMonitor) → v m ≡ validateRules m) → (n : ℕ) → ¬ ((m : MqttMonitor) → v m ≡ Done n)
 invented-shadow v meets n h =
     let none : 0 ≡ n = ap count (sym (shadows .0) ∙ sym (meets (hub 2)) ∙ h (hub 2)) in
-    let one : 1 ≡ n = ap count (sym (shadows .1) ∙ sym (meets shadowed) ∙ h shadowed) in
+    let one : 1 ≡ n = ap count (sym (shadows .1) ∙ sym (meets crowded) ∙ h crowded) in
     omega arith
 
 -- an empty trace is refused at its first line, and one with that line alone at its second

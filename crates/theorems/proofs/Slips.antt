@@ -9,7 +9,7 @@ use Rattle.topics.specs.Patterns.{wellPlaced, patternRefusal}
 use Rattle.topics.specs.Utf8.{begun, taken, isUtf8}
 use Rattle.tables.specs.Buckets.{refilled, spend, isExpired, holdsBucket, newcomer, decide}
 use Rattle.tables.specs.Identity.{prefixOf, idOf, isOf}
-use Rattle.tables.specs.Rules.{qosOk, ruleFine, equalRule, firstRule, covered, shadowedAfter, rulePlan}
+use Rattle.tables.specs.Rules.{qosOk, ruleFine, equalRule, firstRule, shadowed, shadowedAfter, rulePlan}
 use Rattle.tables.specs.Scan.{find, leastOf}
 use Rattle.monitor.specs.Alerts.{severityOf, hashOf, kindsOf, raise, raiseAll}
 use Rattle.monitor.specs.Calls.{fresh, addRule}
@@ -24,7 +24,7 @@ use Rattle.theorems.specs.Tight.{hub, publish, crowd}
 
 pub slips : Slips
 unfolding matchBytes fromSlash takesNone takesEnd firstLevel restLevels same has wellPlaced countOf patternRefusal isUtf8 taken begun fnv1a djb2 suffixHash prefixOf idOf
-    isOf find leastOf refilled spend isExpired holdsBucket newcomer decide qosOk ruleFine equalRule firstRule covered shadowedAfter severityOf hashOf
+    isOf find leastOf refilled spend isExpired holdsBucket newcomer decide qosOk ruleFine equalRule firstRule shadowed shadowedAfter severityOf hashOf
     kindsOf raise raiseAll fresh rulePlan addRule rulingOf gateAfter gateOf applied inspectRefusal inspectWith seenOf spentOf fedOf denialOf planFrom
     planOf every wellFormed afterBy firstRate rateOf reaches allowedOf hub publish crowd
 slips = record { replaced = refl; expired = refl; capped = refl; dropped = refl; moved = refl; bare = refl }

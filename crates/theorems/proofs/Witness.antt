@@ -18,7 +18,7 @@ use Rattle.lines.specs.Span.{spanOf}
 use Rattle.lines.specs.Word.{firstWord, restWords}
 use Rattle.tables.specs.Buckets.{refilled, spend, isExpired, holdsBucket, newcomer, decide}
 use Rattle.tables.specs.Identity.{prefixOf, idOf, isOf}
-use Rattle.tables.specs.Rules.{qosOk, ruleFine, equalRule, firstRule, covered, shadowedAfter, rulePlan}
+use Rattle.tables.specs.Rules.{qosOk, ruleFine, equalRule, firstRule, shadowed, shadowedAfter, rulePlan}
 use Rattle.tables.specs.Scan.{find, leastOf}
 use Rattle.monitor.specs.Alerts.{severityOf, hashOf, kindsOf, raise, raiseAll}
 use Rattle.monitor.specs.Calls.{fresh, addRule}
@@ -38,7 +38,7 @@ pub witness : Witness
 unfolding decimal decimalIn keyed lineAt answered numberField wordField hexField isDigit digitsAfter noSpareZero decimalOf isHex unhex hexRefusal
     begins wordIndex wordOf toByte findByte spanOf firstWord restWords matchBytes fromSlash takesNone takesEnd firstLevel restLevels same has wellPlaced
     countOf patternRefusal isUtf8 taken begun fnv1a djb2 suffixHash prefixOf idOf isOf find leastOf refilled spend isExpired holdsBucket newcomer decide qosOk ruleFine equalRule
-    firstRule covered shadowedAfter severityOf hashOf kindsOf raise raiseAll fresh rulePlan addRule rulingOf gateAfter gateOf applied inspectRefusal inspectWith
+    firstRule shadowed shadowedAfter severityOf hashOf kindsOf raise raiseAll fresh rulePlan addRule rulingOf gateAfter gateOf applied inspectRefusal inspectWith
     seenOf spentOf fedOf denialOf planFrom planOf repliesBy every wellFormed openingOf opening1 opening2 ruleAt rule1 rule2 rule3 rule4 messageAt message1 message2
     message3 message4 message5 message6 message7 ruleInto rulesInto loadedFrom loaded messagesFrom messagesOf passedOf topicRate firstRate busyText
 witness =

@@ -2,10 +2,12 @@
 -- `claims` in proofs/Claims.antt proves it, so a claim whose theorem is gone breaks the check. That every public call's promise leaves one answer is claimed function by function,
 -- in proofs/Answers*.antt; bin/answered holds that list to every public function.
 -- Assumes nothing.
+use Rattle.topics.specs.Covered.{CoversExactly, OldCountMeets}
 use Rattle.topics.specs.Encoding.{Utf8Exactly}
 use Rattle.topics.specs.Meaning.{Meaning, Difference}
 use Rattle.lines.specs.Round.{Round}
 use Rattle.monitor.specs.Chosen.{Chosen}
+use Rattle.monitor.specs.Covered.{Covered}
 use Rattle.monitor.specs.Light.{Light}
 use Rattle.monitor.specs.Reached.{SoundAlways, UnbrokenAlways, SendableAlways}
 use Rattle.monitor.specs.Told.{DeniedByKind, AtMostFour, NoneDropped, TotalIsSum}
@@ -21,6 +23,7 @@ use Rattle.theorems.specs.Corners.{Corners}
 use Rattle.theorems.specs.Guider.{Guider}
 use Rattle.theorems.specs.Limits.{Upper, LowerFirst, LowerLater}
 use Rattle.theorems.specs.LowerExact.{Exactness}
+use Rattle.theorems.specs.OldCount.{OldCountWrong}
 use Rattle.theorems.specs.Printed.{PrintedLimits, LoopLimits}
 use Rattle.theorems.specs.Queued.{QueuedLimits}
 use Rattle.theorems.specs.RemovalRuns.{RemovalRuns}
@@ -115,6 +118,16 @@ pub record Claims : Type 0 where
   pub meaning : Meaning
   -- and the port differs from the standard, section 4.7.2 included, exactly at a `+` on an empty last level and at a dollar name under a leading wildcard
   pub difference : Difference
+  -- RULES THAT CAN NEVER SPEAK (request C-20). Of two patterns that `add_rule` takes, and under both flags of the matcher at once: `covers` answers yes exactly where the earlier one matches every
+  -- name, of 1 to 128 bytes without zero, `+` or `#`, that the later one matches; where it answers no, the witness is such a name that only the later one matches
+  pub covers-exactly : CoversExactly
+  -- so of a monitor and its own matcher: for each rule the first earlier rule that matches every name that it matches is reported, exactly when there is one, and no message is ever ruled by a rule
+  -- that is reported; of a later and an earlier rule a name that only the later one matches is handed back, or none, and then the earlier one matches every name of the later
+  pub covered : Covered
+  -- the old shadow count has all that is covered, with wildcards or without, in a port monitor; under the standard too, but where a `+` stands at an empty last level
+  pub old-count : OldCountMeets
+  -- and it is wrong: `a/#` behind `a/+` is counted and not covered, as the topic `a` shows; under the standard it also counts a plain pattern that is not covered, and misses one that is
+  pub old-count-wrong : OldCountWrong
   -- STRINGS. Bytes pass the test of UTF-8 exactly where they are written, as RFC 3629 has it, for scalar values; and have a zero byte exactly where U+0000 is one of these
   pub utf8 : Utf8Exactly
   -- TEXT. What is written is read back, and what is read was written so

@@ -3,6 +3,7 @@ pub mod Corners
 pub mod Guider
 pub mod Limits
 pub mod LowerExact
+pub mod OldCount
 pub mod One
 pub mod Printed
 pub mod Queued
