@@ -1,6 +1,6 @@
-// hubsettings: a settings text on standard input, what it sets on standard output, in words (request C-13); or that text in another form (request C-18). All of the work is `tell_settings` and
-// `turn_settings` of `settings::told`; here are only the two buffers and the way in and out. That what is told is whole is promised by `answer` and `turn`; what `read` and `write` move is the C
-// library's word.
+// hubsettings: a settings text on standard input, what it sets on standard output, in words (request C-13); or that text in another form (request C-18), its rules that can never speak, or what
+// stands between two of its rules (request C-20). All of the work is `tell_settings` and `turn_settings` of `settings::told`, and `tell_dead` and `tell_pair` of `settings::dead`; here are only
+// the two buffers and the way in and out. That what is told is whole is promised by `answer`, `answer_dead`, `answer_pair` and `turn`; what `read` and `write` move is the C library's word.
 // A program has no exit status of its own: it says on standard error what failed, and nothing where nothing did. `bin/hubsettings` makes a status of that. A text that is refused in the form that is
 // asked for is said there too, by number and line, so that nothing on standard output can be taken for settings.
 pub mod asked;
@@ -9,6 +9,8 @@ use asked::Asked;
 use libc::STDERR_FILENO;
 use libc::STDIN_FILENO;
 use libc::STDOUT_FILENO;
+use settings::dead::tell_dead;
+use settings::dead::tell_pair;
 use settings::told::SettingsTold;
 use settings::told::tell_settings;
 use settings::told::turn_settings;
@@ -20,7 +22,7 @@ ghost use lib.ListN.{length, take};
 ghost use Rattle.settings.specs.Told.{toldRoom};
 ghost use Rattle.io.specs.Counts.{Counts};
 ghost use Rattle.streams.specs.Turns.{DoneWithin};
-ghost use Rattle.hubsettings.specs.Answered.{answerTo, turnTo, turnEnd};
+ghost use Rattle.hubsettings.specs.Answered.{answerTo, deadTo, pairTo, turnTo, turnEnd};
 
 // Room for the longest settings text, 65,536 bytes, and for one byte more, by which a longer one is known (27).
 fn text_buffer() -> [u8; 65537]
@@ -50,6 +52,34 @@ fn answer(read: Done, text: &[u8], out: &mut [u8]) -> usize
     told.length
 }
 
+// The rules of the text that was read that can never speak, likewise.
+fn answer_dead(read: Done, text: &[u8], out: &mut [u8]) -> usize
+    requires { ⌜ DoneWithin read (length (now text)) ⌝ }
+    requires { ⌜ toldRoom ≡ length (now out) ⌝ }
+    ensures { λ r. ⌜ Counts r (now (out .exit)) ⌝ }
+    ensures { λ r. ⌜ take r (now (out .exit)) ≡ deadTo read (now (text .entry)) ⌝ }
+{
+    let Done::Bytes(n) = read else {
+        return 0;
+    };
+    let told = tell_dead(&text[..n], out);
+    told.length
+}
+
+// What stands between two of its rules, likewise.
+fn answer_pair(later: u64, earlier: u64, read: Done, text: &[u8], out: &mut [u8]) -> usize
+    requires { ⌜ DoneWithin read (length (now text)) ⌝ }
+    requires { ⌜ toldRoom ≡ length (now out) ⌝ }
+    ensures { λ r. ⌜ Counts r (now (out .exit)) ⌝ }
+    ensures { λ r. ⌜ take r (now (out .exit)) ≡ pairTo later earlier read (now (text .entry)) ⌝ }
+{
+    let Done::Bytes(n) = read else {
+        return 0;
+    };
+    let told = tell_pair(&text[..n], later, earlier, out);
+    told.length
+}
+
 // The text that was read in a form, or how it is refused, at the beginning of `out`, and how that ended. 28 never happens here either.
 fn turn(form: u32, read: Done, text: &[u8], out: &mut [u8]) -> SettingsTold
     requires { ⌜ DoneWithin read (length (now text)) ⌝ }
@@ -76,18 +106,41 @@ fn print(answer: &[u8]) {
     }
 }
 
+// Writes the answer to a text that was read; or says that it was not.
+fn finish(read: Done, answer: &[u8]) {
+    match read {
+        Done::Failed => {
+            os::fail(b"hubsettings: the settings could not be read, so nothing was answered")
+        }
+        Done::Bytes(_) => print(answer),
+    }
+}
+
 // Reads a settings text, and writes what it sets; or says what failed.
 fn tell() {
     let mut text = text_buffer();
     let read = input::read_all(STDIN_FILENO, &mut text);
     let mut out = answer_buffer();
     let length = answer(read, &text, &mut out);
-    match read {
-        Done::Failed => {
-            os::fail(b"hubsettings: the settings could not be read, so nothing was answered")
-        }
-        Done::Bytes(_) => print(&out[..length]),
-    }
+    finish(read, &out[..length]);
+}
+
+// Reads a settings text, and writes which of its rules can never speak; or says what failed.
+fn list_dead() {
+    let mut text = text_buffer();
+    let read = input::read_all(STDIN_FILENO, &mut text);
+    let mut out = answer_buffer();
+    let length = answer_dead(read, &text, &mut out);
+    finish(read, &out[..length]);
+}
+
+// Reads a settings text, and writes what stands between two of its rules; or says what failed.
+fn part(later: u64, earlier: u64) {
+    let mut text = text_buffer();
+    let read = input::read_all(STDIN_FILENO, &mut text);
+    let mut out = answer_buffer();
+    let length = answer_pair(later, earlier, read, &text, &mut out);
+    finish(read, &out[..length]);
 }
 
 // Reads a settings text, and writes it in a form; or says what refused it or failed.
@@ -112,10 +165,12 @@ fn main() {
     match asked {
         Asked::Tell => tell(),
         Asked::To(form) => convert(form),
+        Asked::Dead => list_dead(),
+        Asked::Pair(later, earlier) => part(later, earlier),
         Asked::Unknown => {
             io::write_all(
                 STDERR_FILENO,
-                b"hubsettings: it takes --to=1 or --to=2, and reads the settings from standard input\n",
+                b"hubsettings: it takes --to=1, --to=2, --dead or --dead=LATER,EARLIER, and reads the settings from standard input\n",
             );
         }
     }

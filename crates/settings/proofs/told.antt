@@ -1,3 +1,3 @@
-mod GivenLaws
+pub mod GivenLaws
 pub mod TellLaws
 pub mod TurnLaws

@@ -1,4 +1,5 @@
 pub mod Convert
+pub mod Dead
 pub mod Head
 pub mod HomeAgain
 pub mod Kept

@@ -2,6 +2,8 @@
 // line; a monitor's settings are written, in the form that is asked for, as the one text that loads to them. The lines are read and written by `lines`, put together by `forms`, and a rule's by
 // `rules_text`.
 pub mod convert;
+pub mod dead;
+mod dead_lines;
 mod head;
 pub mod load;
 mod matcher;

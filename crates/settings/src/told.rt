@@ -12,7 +12,7 @@ ghost use Rattle.lines.specs.Wrote.{Wrote};
 ghost use Rattle.settings.specs.Told.{settingsTold, settingsGiven, toldText, turnedText, toldRoom, toldEnd, turnedEnd, toldKept, turnedKept};
 
 // Room for what is told of any text.
-const ROOM: usize = 16384;
+pub(crate) const ROOM: usize = 16384;
 
 // How the text ended, 0 or the number that refuses it, its last line or the refused one, and how many bytes are told. 28, and nothing is told, where the lent buffer has less than 16,384 bytes.
 pub struct SettingsTold {

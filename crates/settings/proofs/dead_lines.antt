@@ -1,0 +1,2 @@
+pub mod DeadBounds
+mod DeadLaws
