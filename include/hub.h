@@ -1,9 +1,10 @@
 /* hub.h: the hub's message monitor for callers in C11 and C++11. Link target/staticlib/libhub.a, which `rt staticlib
  * hub` proves and writes; for hub_settings libboot.a, which `rt staticlib boot` writes; for hub_packet and
  * hub_packet_lines libjack.a, which `rt staticlib jack` writes; for hub_queue libwake.a, which `rt staticlib wake` writes;
- * and for the calls whose names begin with hub_standing, which are for a support desk and not for the part, libdesk.a,
- * which `rt staticlib desk` writes. Each is for x86-64 Linux (ELF, System V calls), as position-independent code; besides
- * the functions below it needs memcpy and memset. bin/header holds this file and the archives to each other.
+ * and for hub_covers, hub_witness and the calls whose names begin with hub_standing, which are for a support desk and not
+ * for the part, libdesk.a, which `rt staticlib desk` writes. Each is for x86-64 Linux (ELF, System V calls), as
+ * position-independent code; besides the functions below it needs memcpy and memset. bin/header holds this file and the
+ * archives to each other.
  *
  * The caller's duties, for every function here:
  * - a pointer is not null, also where the length beside it is 0;
@@ -11,16 +12,18 @@
  * - the bytes that are read are initialised, and nothing changes them during the call; `out` need not be initialised;
  * - what a function writes to overlaps no other argument, and nothing else reads or writes it during the call;
  * - there is room on the stack: 96 KiB for a call whose name begins with hub_standing, 48 KiB for one whose name begins
- *   with hub_trace and for hub_queue, 16 KiB for hub_settings, 1 KiB for any other (see below).
+ *   with hub_trace and for hub_queue, 16 KiB for hub_settings, 2 KiB for hub_covers and hub_witness, 1 KiB for any other
+ *   (see below).
  *
  * Each call then returns, allocates nothing, keeps no pointer and has no state: equal arguments give equal answers, on
  * any thread. A bool is 0 or 1.
  *
- * Stack, in bytes below the caller, by measurement (rattle-kit-5b, x86-64; `bin/measure stack` measures again): those of
- * the standing reach 82,392, hub_queue 42,328, those of traces 30,258, hub_settings 14,658, hub_packet_lines 688,
- * hub_packet 336, every other call at most 256, less not being told apart. Whole, cut and damaged texts and packets were
- * tried; by the disassembly no function of libhub.a, libboot.a, libjack.a or libwake.a calls itself, no frame grows with
- * its input, and the frames add up to no more. libdesk.a was measured alone. */
+ * Stack, in bytes below the caller, by measurement (rattle-kit-5b, x86-64; `bin/measure stack` measures again): those
+ * of the standing reach 82,392, hub_queue 42,328, those of traces 30,258, hub_settings 14,658, hub_witness 1,096,
+ * hub_covers 792, hub_packet_lines 688, hub_packet 336, every other call at most 256, less not being told apart. Whole,
+ * cut and damaged texts and packets were tried; by the disassembly no function of libhub.a, libboot.a, libjack.a or
+ * libwake.a calls itself, no frame grows with its input, and the frames add up to no more. libdesk.a was measured
+ * alone. */
 #ifndef HUB_H
 #define HUB_H
 
@@ -90,6 +93,13 @@ struct HubQueue {
     size_t length;      /* how many bytes their records have */
     uint64_t inspected; /* the monitor's count of messages afterwards, those of the trace among them */
     uint64_t total;     /* its count of alerts, likewise */
+};
+
+/* A name that only the later of two patterns matches. */
+struct HubWitness {
+    uint32_t number;   /* 0, or the number that refuses a pattern */
+    size_t length;     /* how many bytes the name has; 0 for none, and with any refusal */
+    uint8_t name[128]; /* the name, and zeros behind it */
 };
 
 /* How settings were written back. */
@@ -201,6 +211,17 @@ struct HubPacketLines hub_packet_lines(const uint8_t *bytes, size_t bytes_len, s
  * written here. An opening alone is a whole trace. */
 struct HubQueue hub_queue(const uint8_t *trace, size_t trace_len, uint64_t at, bool clock_ok, const uint8_t *packets,
                           size_t packets_len, uint8_t *out, size_t out_len);
+
+/* Whether a rule with the earlier pattern leaves nothing to a later rule with the other one: whether it matches every name
+ * that the later one matches, names being 1 to 128 bytes without zero, `+` or `#`. Both match as hub_topic_matches does, or
+ * with `standard` as hub_standard_matches does. 1 yes, 0 no (proved, both ways). Refuses a pattern that no rule may have
+ * with its number, 9 or 36, the earlier one's first. */
+uint32_t hub_covers(const uint8_t *earlier, size_t earlier_len, const uint8_t *later, size_t later_len, bool standard);
+
+/* A name by which it is seen that the earlier pattern does not: the later one matches it and the earlier one does not
+ * (proved). Its length is 0 where there is none, just where hub_covers says 1, and where a pattern is refused, as there. */
+struct HubWitness hub_witness(const uint8_t *earlier, size_t earlier_len, const uint8_t *later, size_t later_len,
+                              bool standard);
 
 /* Where the limit stands after a whole trace: the lines of docs/STANDING.md, which follow the answer of hub_trace, or of
  * hub_trace_standard, where they are asked for. They go to the front of `out`, and the rest of it is left as it was.

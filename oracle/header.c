@@ -349,6 +349,38 @@ static void waking_in_part(void) {
     holds("33 for a topic of 129 bytes, behind a PUBLISH", end.number == 33 && end.place == 13 && end.done == 1);
 }
 
+/* Two patterns: what hub_covers and hub_witness say, for the port and for the standard. */
+static bool shows(struct HubWitness w, uint32_t number, const char *name) {
+    static const uint8_t zeros[sizeof w.name] = {0};
+    size_t length = strlen(name);
+    return w.number == number && w.length == length && memcmp(w.name, name, length) == 0 &&
+           memcmp(w.name + length, zeros, sizeof zeros - length) == 0;
+}
+
+/* The name is empty where there is none. */
+#define COVERS(earlier, later, standard, name)                                                                        \
+    holds(later " behind " earlier, hub_covers(BYTES(earlier), BYTES(later), standard) == (sizeof(name) == 1));       \
+    holds("name of " later " alone", shows(hub_witness(BYTES(earlier), BYTES(later), standard), 0, name))
+
+static void covering(void) {
+    COVERS("a/+", "a/#", false, "a"); /* what the old shadow count calls dead */
+    COVERS("a/+", "a/#", true, "a");
+    COVERS("a/#", "a/+", false, "");
+    COVERS("a/+", "a/b", true, "");
+    COVERS("a/b", "a/+", false, "a/a");
+    COVERS("a/a", "a/+", false, "a/b"); /* the second letter */
+    COVERS("a/+", "a/", false, "a/");   /* the port's + refuses an empty last level */
+    COVERS("a/+", "a/", true, "");
+    COVERS("#", "$SYS/x", false, "");
+    COVERS("#", "$SYS/x", true, "$SYS/x"); /* 4.7.2 */
+    COVERS("+/#", "#", true, "");          /* the empty name is no name */
+    COVERS("/+/#", "/#", false, "/");
+    COVERS("/+/#", "/#", true, "");
+    holds("9 for an earlier pattern", hub_covers(BYTES("a+"), BYTES("\xff"), false) == 9);
+    holds("36 for a later one", hub_covers(BYTES("a"), BYTES("\xff"), false) == 36);
+    holds("no name of a refused one", shows(hub_witness(BYTES("a"), BYTES(""), true), 9, ""));
+}
+
 /* A call that goes on where another one ended: the messages that were done stand behind its trace, and `n=` counts anew. */
 static void waking_again(void) {
     static const char later[] = PASSED("1") ALERTED("2", "1", "2", "11") PASSED("3");
@@ -381,6 +413,7 @@ static void waking_refused(void) {
 
 int main(void) {
     matching();
+    covering();
     hashing();
     tracing(hub_trace, hub_trace_length);
     tracing(hub_trace_standard, hub_trace_standard_length);

@@ -5,10 +5,13 @@
 //! docs/DIFFERENCES.md has them all. A line that is not understood, or a field that there is not, ends the program; so
 //! does a call that chooses a rule, on a monitor that matches otherwise than the original that this is built over.
 //! Where the limit stands is no call of the original: it is found out by trying on copies (tried.rs). Nor are its
-//! settings as text, of which there are a second reader and writer (reload.rs), nor a run of packets (queued.rs).
+//! settings as text, of which there are a second reader and writer (reload.rs), nor a run of packets (queued.rs), nor
+//! which rules can never speak (silent.rs).
 
 use crate::queued::{self, Ran};
 use crate::reload::reload;
+use crate::samples::Try;
+use crate::silent::{self, RULES};
 use crate::tally::Random;
 use crate::tried::{self, Left, Stand};
 use std::fmt::{Display, Formatter, Result as Written};
@@ -70,6 +73,12 @@ pub enum Answer {
         line: u64,
     },
     Queued(Ran),
+    /// Of each rule the places of all earlier ones that cover it; and whether the other matcher says otherwise.
+    Covered {
+        by: Vec<Vec<usize>>,
+        apart: bool,
+    },
+    LaterName(Option<Try>),
 }
 
 impl Display for Answer {
@@ -94,6 +103,12 @@ impl Display for Answer {
                 write!(out, " number={number} place={place} done={done} length={}", records.len())?;
                 String::from_utf8_lossy(records).lines().try_for_each(|line| write!(out, "\n   {line}"))
             }
+            Answer::Covered { by, .. } => {
+                let first = |place: usize| by.get(place)?.first().map(|earlier| earlier + 1);
+                (0..RULES).try_for_each(|place| write!(out, " {}", first(place).unwrap_or(0)))
+            }
+            Answer::LaterName(None) => write!(out, " none"),
+            Answer::LaterName(Some(tried)) => write!(out, " name={}", hex(&tried.name)),
             Answer::Inspected(_, result) => {
                 write!(out, " allowed={} alerts={}", result.allowed as u8, result.alert_count)?;
                 for (place, alert) in result.alerts[..result.alert_count as usize].iter().enumerate() {
@@ -257,13 +272,17 @@ impl Original {
                 Ok(0)
             }
             "reload" => return reload(self, args.small(0, 32) as u32),
-            "standing" | "tokens_left" | "inspect" | "inspect_claimed" | "queue" if self.matching != MATCH => {
+            "standing" | "tokens_left" | "inspect" | "inspect_claimed" | "queue" | "covered_rules" | "later_name"
+                if self.matching != MATCH =>
+            {
                 panic!("{name} of a monitor whose matching is {}", self.matching)
             }
             "standing" => return stands(monitor, &args.bytes(0), None),
             "tokens_left" => return stands(monitor, &args.bytes(0), Some(args.number(1))),
             "inspect" | "inspect_claimed" => return inspect(monitor, name == "inspect_claimed", args),
             "queue" => return queue(monitor, args),
+            "covered_rules" => return silent::covered_rules(monitor),
+            "later_name" => return silent::later_name(monitor, args.number(0), args.number(1)),
             _ => panic!("not understood: {name}"),
         };
         result.into()

@@ -43,6 +43,8 @@ fn main() {
     let pairs = |call: fn(&[u8], &[u8])| strings.iter().for_each(|a| strings.iter().for_each(|b| call(a, b)));
     row("hub_topic_matches", || pairs(|topic, pattern| _ = black_box(hub::topic_matches(topic, pattern))));
     row("hub_standard_matches", || pairs(|name, pattern| _ = black_box(hub::standard_matches(name, pattern))));
+    row("hub_covers", || pairs(|earlier, later| _ = black_box(hub::covers(earlier, later, true))));
+    row("hub_witness", || pairs(|earlier, later| _ = black_box(hub::witness(earlier, later, true))));
     trace_rows("hub_trace", hub::trace, hub::trace_length, &traces);
     trace_rows("hub_trace_standard", hub::trace_standard, hub::trace_standard_length, &traces);
     let mut room = vec![0; ENOUGH];

@@ -3,10 +3,13 @@
 
 mod answers;
 mod checks;
+mod levels;
 mod mqtt;
 mod queued;
 mod reader;
 mod reload;
+mod samples;
+mod silent;
 mod tally;
 mod tried;
 

@@ -1,6 +1,8 @@
 //! The exports of the archives of hub, desk, boot, jack and wake, as safe functions on slices. The C declarations stand
 //! in include/hub.h; a slice crosses as pointer and length, and a Rust slice always meets the duties named there.
 
+use std::fmt::{Debug, Formatter, Result};
+
 /// The two hashes that tell clients apart.
 #[repr(C)]
 #[derive(Clone, Copy, Debug, PartialEq, Eq)]
@@ -61,8 +63,27 @@ pub struct HubQueue {
     pub total: u64,
 }
 
+/// A name that only the later of two patterns matches, and zeros behind it. Its length is 0 where there is none, and where
+/// a number refuses one of the patterns.
+#[repr(C)]
+#[derive(Clone, Copy, PartialEq, Eq)]
+pub struct HubWitness {
+    pub number: u32,
+    pub length: usize,
+    pub name: [u8; 128],
+}
+
+impl Debug for HubWitness {
+    /// The name up to its last byte that is not zero, which the length should say.
+    fn fmt(&self, out: &mut Formatter) -> Result {
+        let used = self.name.iter().rposition(|&byte| byte != 0).map_or(0, |last| last + 1);
+        let name = self.name[..used].escape_ascii();
+        write!(out, "number {} with {} bytes of \"{name}\"", self.number, self.length)
+    }
+}
+
 mod raw {
-    use super::{HubClientHashes, HubPacket, HubPacketLines, HubQueue, HubSettings, HubTrace};
+    use super::{HubClientHashes, HubPacket, HubPacketLines, HubQueue, HubSettings, HubTrace, HubWitness};
 
     #[rustfmt::skip]
     unsafe extern "C" {
@@ -91,6 +112,10 @@ mod raw {
             out: *mut u8, out_len: usize) -> HubPacketLines;
         pub fn hub_queue(trace: *const u8, trace_len: usize, at: u64, clock_ok: bool,
             packets: *const u8, packets_len: usize, out: *mut u8, out_len: usize) -> HubQueue;
+        pub fn hub_covers(earlier: *const u8, earlier_len: usize, later: *const u8, later_len: usize,
+            standard: bool) -> u32;
+        pub fn hub_witness(earlier: *const u8, earlier_len: usize, later: *const u8, later_len: usize,
+            standard: bool) -> HubWitness;
     }
 }
 
@@ -241,4 +266,17 @@ pub fn queue(trace: &[u8], at: u64, clock_ok: bool, packets: &[u8], out: &mut [u
     let (text, text_len) = (trace.as_ptr(), trace.len());
     let (bytes, bytes_len) = (packets.as_ptr(), packets.len());
     unsafe { raw::hub_queue(text, text_len, at, clock_ok, bytes, bytes_len, out.as_mut_ptr(), out.len()) }
+}
+
+/// Whether the earlier pattern matches every name that the later one matches, by the port's matching or the standard's: 0
+/// no, 1 yes. Refuses what `pattern_refusal` does, with its number, and the earlier pattern first.
+#[inline]
+pub fn covers(earlier: &[u8], later: &[u8], standard: bool) -> u32 {
+    unsafe { raw::hub_covers(earlier.as_ptr(), earlier.len(), later.as_ptr(), later.len(), standard) }
+}
+
+/// A name that the later pattern matches and the earlier does not. Refuses what `covers` does.
+#[inline]
+pub fn witness(earlier: &[u8], later: &[u8], standard: bool) -> HubWitness {
+    unsafe { raw::hub_witness(earlier.as_ptr(), earlier.len(), later.as_ptr(), later.len(), standard) }
 }

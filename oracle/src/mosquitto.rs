@@ -17,7 +17,7 @@ unsafe extern "C" {
 }
 
 /// Whether the filter takes the name: 0 no, 1 yes, 9 where libmosquitto refuses to say.
-fn matches(name: &CStr, filter: &CStr) -> u32 {
+pub fn matches(name: &CStr, filter: &CStr) -> u32 {
     let mut result = false;
     let refused = unsafe { mosquitto_topic_matches_sub(filter.as_ptr(), name.as_ptr(), &mut result) };
     if refused == 0 { result as u32 } else { 9 }

@@ -12,7 +12,7 @@ use vs_mqtt_monitor::{TopicAction, opened, state};
 
 /// Every public call of the monitor, and the run of packets. `inspect_claimed` is `inspect` with claimed lengths, `counters`
 /// are three calls.
-const CALLS: [&str; 17] = [
+const CALLS: [&str; 19] = [
     NEW,
     NEW_DENY_DEFAULT,
     "add_rule",
@@ -30,6 +30,8 @@ const CALLS: [&str; 17] = [
     "standing",
     "tokens_left",
     "queue",
+    "covered_rules",
+    "later_name",
 ];
 
 const TYPES: [&str; 15] = [
@@ -38,7 +40,7 @@ const TYPES: [&str; 15] = [
 ];
 
 /// Every refusal that documents 01 and 02 have of each call.
-const REFUSALS: [&str; 23] = [
+const REFUSALS: [&str; 26] = [
     "add_rule refused 6",
     "add_rule refused 9",
     "add_rule refused 36",
@@ -62,6 +64,9 @@ const REFUSALS: [&str; 23] = [
     "standing refused 10",
     "tokens_left refused 9",
     "tokens_left refused 10",
+    "covered_rules refused 10",
+    "later_name refused 9",
+    "later_name refused 10",
 ];
 
 /// Where the limit stood when a script asked for it, and what a message would have left.
@@ -127,6 +132,20 @@ pub const QUEUES: [&str; 21] = [
     "queue in which the id wrapped",
 ];
 
+/// Rules that others cover or do not, and the name that shows it.
+pub const COVERS: [&str; 10] = [
+    "covered: no rule of several",
+    "covered: a rule by the first",
+    "covered: a rule by another",
+    "covered: a rule by several",
+    "covered: all rules but the first",
+    "covered: some of 32 rules",
+    if STANDARD { "covered: not as the port has it" } else { "covered: not as the standard has it" },
+    "later name: none",
+    "later name: of the first letter",
+    "later name: of the second letter",
+];
+
 /// What only standard monitors meet: a loaded one goes on as one.
 const GOES_ON: &str = "reloaded, then a rule chosen that the port would not choose";
 
@@ -176,6 +195,7 @@ pub fn all() -> impl Iterator<Item = &'static str> {
         .chain(STANDS)
         .chain(RELOADS)
         .chain(QUEUES)
+        .chain(COVERS)
         .chain(STANDARD.then_some(GOES_ON))
         .chain(kinds)
         .chain(PLACES)
@@ -283,6 +303,15 @@ impl Play<'_> {
             }
             Answer::Left(Left { kind: 0, .. }) => self.met.count("left: no limiter", 1),
             Answer::Left(_) => self.met.count("left: denied by another", 1),
+            Answer::Covered { by, apart } => self.count_covered(by, *apart),
+            Answer::LaterName(found) => {
+                let what = match found.as_ref().map(|tried| tried.letter) {
+                    None => "later name: none",
+                    Some(b'a') => "later name: of the first letter",
+                    Some(_) => "later name: of the second letter",
+                };
+                self.met.count(what, 1);
+            }
             Answer::Inspected(message, result) => {
                 self.met.count(TYPES[message.packet_type as usize - 1], 1);
                 self.met.count("clock back", (message.timestamp_us < self.last_at).into());
@@ -320,6 +349,19 @@ impl Play<'_> {
         }
         self.count_tables();
         self.lines.push(line);
+    }
+
+    /// Counts which rules are covered, each by these.
+    fn count_covered(&mut self, by: &[Vec<usize>], apart: bool) {
+        let covered: Vec<&Vec<usize>> = by.iter().filter(|by| !by.is_empty()).collect();
+        let some = |such: fn(&[usize]) -> bool| u64::from(covered.iter().any(|by| such(by)));
+        self.met.count("covered: no rule of several", (covered.is_empty() && by.len() > 1).into());
+        self.met.count("covered: a rule by the first", some(|by| by[0] == 0));
+        self.met.count("covered: a rule by another", some(|by| by[0] > 0));
+        self.met.count("covered: a rule by several", some(|by| by.len() > 1));
+        self.met.count("covered: all rules but the first", (covered.len() > 1 && covered.len() + 1 == by.len()).into());
+        self.met.count("covered: some of 32 rules", (covered.len() > 0 && by.len() == 32).into());
+        self.met.count(COVERS[6], apart.into());
     }
 
     /// Counts how a run of these packets into this room ended.

@@ -5,6 +5,7 @@
 mod asks;
 mod queues;
 mod reloads;
+mod silent;
 
 use crate::answers::{NEW, NEW_DENY_DEFAULT, hex};
 use crate::make::{BROKEN, LIKE_NOBODY, among, pattern};
@@ -15,6 +16,7 @@ use crate::tally::Random;
 use asks::{ask_standing, ask_tokens};
 use queues::queue;
 use reloads::reload;
+use silent::{ask_covered, ask_name};
 use vs_mqtt_monitor::{MqttMonitor, state};
 use vs_types_embedded::fnv1a_hash;
 
@@ -79,6 +81,7 @@ pub const MAKERS: &[Maker] = &[
     asks::STANDING,
     reloads::RELOADED,
     queues::QUEUED,
+    silent::SILENT,
 ];
 
 /// One script of a maker.
@@ -362,7 +365,7 @@ fn anew(scribe: &mut Scribe) {
 }
 
 /// Every call that a state may be refused to.
-const CHANGES: [Turn; 17] = [
+const CHANGES: [Turn; 19] = [
     add_rule,
     remove_rule,
     swap_rules,
@@ -380,6 +383,8 @@ const CHANGES: [Turn; 17] = [
     ask_tokens,
     reload,
     queue,
+    ask_covered,
+    ask_name,
 ];
 
 fn every_call(scribe: &mut Scribe) {
@@ -737,6 +742,7 @@ fn removals(scribe: &mut Scribe) {
             (1, ask_counters),
             (1, ask_standing),
             (1, ask_tokens),
+            (1, ask_covered),
             (1, queue),
         ],
     );

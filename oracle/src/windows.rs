@@ -156,7 +156,7 @@ impl<'a> Reader<'a> {
             "queue" => self.queue(before, &words[1..], windows)?,
             "remove_ewma_tracker" => self.calls.trackers += 1,
             "set_connect_storm_params" => self.calls.settings += 1,
-            "validate_rules" | "counters" | "standing" | "tokens_left" => {}
+            "validate_rules" | "counters" | "standing" | "tokens_left" | "covered_rules" | "later_name" => {}
             "add_rule" | "remove_rule" | "swap_rules" | "clear_rules" if self.run == Run::Fresh => {}
             "add_rule" | "remove_rule" | "swap_rules" | "clear_rules" => self.end(windows),
             "reset_state" => {

@@ -1,7 +1,8 @@
 // Runs the script in standard input on a monitor, one call to a line, and writes the answer beside it: calls that no trace shows, from states that no trace reaches. A line is
-// `NAME ARG..`; bytes are in hex, and an argument `-` is empty. `rule_calls`, `state_calls`, `messages`, `limits`, `reload` and `runs` have the calls, `fields` what a script may set, and
+// `NAME ARG..`; bytes are in hex, and an argument `-` is empty. `rule_calls`, `covers`, `state_calls`, `messages`, `limits`, `reload` and `runs` have the calls, `fields` what a script may set, and
 // `looks` what it may look at. A line that begins with `#` is a heading. The file `stdout` is what the Rust original, with buckets of request C-17, says to the same
 // script (oracle/calls).
+mod covers;
 mod fields;
 mod limits;
 mod looks;

@@ -1,11 +1,11 @@
 // Calls on the rules:
 //     add_rule PATTERN allow|block any|min0..|only2 RATE · remove_rule PLACE · swap_rules PLACE PLACE · clear_rules · validate_rules
+use crate::covers;
 use crate::parts::number16;
 use crate::policies::action;
 use crate::policies::policy;
 use crate::say::say_called;
 use crate::say::say_outcome;
-use crate::state_calls;
 use cut::args::is;
 use cut::args::place;
 use cut::args::unhex;
@@ -46,5 +46,5 @@ pub fn ask(m: MqttMonitor, name: &[u8], q: &[u8]) -> MqttMonitor {
         say_outcome(rule_calls::validate_rules(m));
         return m;
     }
-    state_calls::ask(m, name, q)
+    covers::ask(m, name, q)
 }
