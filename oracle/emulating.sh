@@ -1,36 +1,10 @@
 # emulating.sh: what the part `emulated` of bin/measure needs: programs for x86-64 over the archives of loops and hub, made by the kit's compiler, the program of
 # crates/calls, and an emulator that counts. bin/measure reads it, in the repository's folder, with $room a folder for the run.
 
-# ready: the archives, the programs over them, the plugin that counts, and the traces that we measure with. The traces are written by a host for this machine.
-# HUB_ARCHIVE, if set, is a folder with another libloops.a and libhub.a, as `rt staticlib` writes them, and another target/bin/calls, to count in place of ours.
+# ready: what those programs need. This kit has none of it: it compiles and runs on x86-64 alone, and has no emulator; bin/measure counts there with callgrind.
 ready() {
-    if [ "$(uname -m)" = x86_64 ]; then
-        echo "measure: this machine is x86-64: 'bin/measure loop traces stack' count there without an emulator" >&2
-        exit 1
-    fi
-    oracle/install qemu-user /usr/bin/qemu-x86_64
-    gcc -O2 -Wall -Wextra -Werror -shared -fPIC -o "$room/emulator.so" oracle/emulator.c
-    kit=$(rt doc)
-    tools=${kit%/docs/*}/on/$(uname -m)/toolchain
-    for crate in loops hub; do
-        [ -n "${HUB_ARCHIVE-}" ] || rt staticlib "$crate" >&2
-        # Of the headers only the compiler's own are asked for, which any machine has.
-        "$tools/bin/clang" --target=x86_64-unknown-linux-gnu -O2 -fPIC -ffreestanding -nostdinc -isystem "$(gcc -print-file-name=include)" -I include \
-            -D"over_$crate" -c -o "$room/$crate.o" oracle/emulated.c
-        "$tools/bin/ld.lld" -pie -z now -dynamic-linker "$tools/lib/ld-linux-x86-64.so.2" -o "$room/$crate" "$tools/lib/Scrt1.o" "$tools/lib/crti.o" \
-            "$tools/lib/crtbeginS.o" "$room/$crate.o" "${HUB_ARCHIVE:-target/staticlib}/lib$crate.a" "$tools/lib/libc.so.6" "$tools/lib/libc_nonshared.a" "$tools/lib/libgcc.a" \
-            "$tools/lib/libgcc_s.so.1" "$tools/lib/crtendS.o" "$tools/lib/crtn.o"
-    done
-    if [ -z "${HUB_ARCHIVE-}" ]; then
-        [ -x target/bin/calls ] || rm -f target/stamp/calls # else rt takes it for built
-        rt check calls >&2
-    fi
-    cp "${HUB_ARCHIVE:-target/bin}/calls" "$room/calls"
-    oracle/build
-    oracle/archive hub >&2
-    oracle/host benchtraces target/staticlib
-    mkdir "$room/traces"
-    target/oracle/benchtraces write "$room/traces"
+    echo "measure: this kit compiles on x86-64 alone, and has no emulator: 'bin/measure loop traces stack' count there" >&2
+    exit 1
 }
 
 # emulator CRATE WORDS...: what the program over the archive of a crate says; the instructions of its run are then in $room/count.

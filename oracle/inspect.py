@@ -8,7 +8,7 @@ import gdb
 sys.path.insert(0, os.path.dirname(__file__))
 from looking import register, returns_to
 
-PROGRAM, SCRIPT, BEFORE = "target/bin/calls", "target/inspect.in", 39
+PROGRAM, SCRIPT, BEFORE = "crates/calls/out/calls", "target/inspect.in", 39
 STATE = 8376  # bytes of MqttMonitor
 
 

@@ -23,6 +23,6 @@ def depth(name):
     return deep
 
 
-gdb.execute("file target/bin/kept")
+gdb.execute("file crates/kept/out/kept")
 load, write = depth("settings::load::load_settings"), depth("settings::write::write_settings")
 print(f"| deepest stack below the caller, bytes | {load} | {write} |")

@@ -1,3 +1,5 @@
 // What C and Rust may call where a hub starts, on byte slices: settings that come back after a power cut. It is an archive of its own, apart from `hub`: so each of the two makes its monitor in one
 // place, which the compiler builds into its caller, and neither reaches deeper for the other.
+#![tactic(auto)]
+
 pub mod saving;

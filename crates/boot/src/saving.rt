@@ -5,8 +5,7 @@ ghost use Rattle.settings.specs.Convert.{convert_end, convert_kept};
 use settings::convert::{SettingsEnd, convert_settings};
 
 // Text in, text out, into the caller's buffer, in the form that is asked for, 0 for the text's own. Whatever refuses it, nothing is written.
-#[unsafe(no_mangle)]
-pub extern "C" fn hub_settings(text: &[u8], form: u32, out: &mut [u8]) -> SettingsEnd
+pub fn hub_settings(text: &[u8], form: u32, out: &mut [u8]) -> SettingsEnd
     ensures answer { result ≡ convert_end form (length out.old) text.now }
     ensures buffer { out.new ≡ convert_kept form out.old text.now }
 {

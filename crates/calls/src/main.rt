@@ -2,6 +2,8 @@
 // `NAME ARG..`; bytes are in hex, and an argument `-` is empty. `rule_calls`, `covers`, `state_calls`, `messages`, `limits`, `reload` and `runs` have the calls, `fields` what a script may set, and
 // `looks` what it may look at. A line that begins with `#` is a heading. The file `stdout` is what the Rust original, with buckets of request C-17, says to the same
 // script (oracle/calls).
+#![tactic(auto)]
+
 mod covers;
 mod fields;
 mod limits;
@@ -18,10 +20,11 @@ mod state_calls;
 use crate::say::say;
 use cut::args::arg;
 use cut::{after, before};
-use libc::STDIN_FILENO;
 use monitor::calls::new;
 use monitor::state::MqttMonitor;
 use slices::bytes::starts_with;
+
+const STDIN_FILENO: i32 = 0;
 
 // A line, and the answer beside it: the state after it.
 fn answer(m: MqttMonitor, line: &[u8]) -> MqttMonitor {

@@ -67,26 +67,26 @@ fn say_alert(at: usize, alert: SecurityAlert) {
 }
 
 // The alert at a place, if there is one.
-fn say_alert_at(res: MqttInspectResult, at: usize) {
-    let count = res.alert_count as usize;
+fn say_alert_at(inspected: MqttInspectResult, at: usize) {
+    let count = inspected.alert_count as usize;
     if count <= at {
         return;
     }
     if 4 <= at {
         return;
     }
-    let alerts = res.alerts;
+    let alerts = inspected.alerts;
     say_alert(at, alerts[at]);
 }
 
 // What an inspection found.
-fn say_result(res: MqttInspectResult) {
-    say_number(b"allowed", res.allowed as u64);
-    say_number(b"alerts", res.alert_count as u64);
-    say_alert_at(res, 0);
-    say_alert_at(res, 1);
-    say_alert_at(res, 2);
-    say_alert_at(res, 3);
+fn say_result(inspected: MqttInspectResult) {
+    say_number(b"allowed", inspected.allowed as u64);
+    say_number(b"alerts", inspected.alert_count as u64);
+    say_alert_at(inspected, 0);
+    say_alert_at(inspected, 1);
+    say_alert_at(inspected, 2);
+    say_alert_at(inspected, 3);
 }
 
 // What an inspection found, or that it was refused; the state that it leaves.

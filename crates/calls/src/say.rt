@@ -2,9 +2,10 @@
 ghost use Rattle.std.specs.Prelude.{◌≡◌, length};
 
 use cut::{after, before, upto};
-use libc::STDOUT_FILENO;
 use lines::put;
 use monitor::state::{Called, MqttMonitor, Outcome};
+
+const STDOUT_FILENO: i32 = 1;
 
 // Bytes as they are.
 pub fn say(s: &[u8]) {

@@ -7,11 +7,17 @@
 //     valid "FILTER"            whether the filter's wildcards are well placed
 //     match "FILTER" "NAME"     whether the filter takes the name, by the port and by the standard matcher (`out`: its number 9), and where they differ
 // Any other line is a heading. The answers are compared with the file `stdout`; what is proved here is that the program is safe and ends.
+#![tactic(auto)]
+
 ghost use Rattle.std.specs.Prelude.{◌≤◌, length};
 ghost use Rattle.corners.specs.Parts.{PartIn};
 
 use cut::upto;
-use libc::{STDIN_FILENO, STDOUT_FILENO};
+
+const STDIN_FILENO: i32 = 0;
+
+const STDOUT_FILENO: i32 = 1;
+
 use lines::value;
 use slices::bytes::find_byte;
 use topics::hashes::fnv1a_hash;
@@ -21,7 +27,7 @@ use topics::shown::{is_readable, shown_byte};
 use topics::utf8::is_utf8;
 
 // A quoted part of a line, and the place after its closing quote.
-#[derive(Drop)]
+#[derive(Clone, Copy)]
 struct Part {
     from: usize,
     to: usize,

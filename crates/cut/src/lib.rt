@@ -1,5 +1,7 @@
 // Parts of a text, for the programs that read questions: what stands before and after the first of a byte, and the first few bytes. With LF it takes a text apart into lines,
 // with a blank a line into fields. Every function answers for every text.
+#![tactic(auto)]
+
 pub mod args;
 pub mod swap;
 
@@ -18,7 +20,7 @@ pub fn before(s: &[u8], b: u8) -> &[u8]
 
 // What stands after the first `b`: nothing where there is none. It is shorter than `s`, so that a loop over such parts ends.
 pub fn after(s: &[u8], b: u8) -> &[u8]
-    ensures result_value { result.now ≡ drop (find_byte b s.now 0 + 1) s.now }
+    ensures value { result.now ≡ drop (find_byte b s.now 0 + 1) s.now }
     ensures shorter { length result.now ≤ length s.now - 1 }
 {
     let to = find_byte(s, 0, b);

@@ -7,7 +7,7 @@ use topics::patterns::pattern_refusal;
 
 // A name that only the later pattern matches, zeros after it. The length is 0 where there is none, and where `number` refuses a pattern.
 #[repr(C)]
-#[derive(Drop)]
+#[derive(Clone, Copy)]
 pub struct PairWitness {
     pub number: u32,
     pub length: usize,
@@ -26,8 +26,7 @@ fn pair_refusal(earlier: &[u8], later: &[u8]) -> u32
 }
 
 // Whether the earlier pattern matches every name that the later one matches: 1 yes, 0 no, else the number that refuses a pattern.
-#[unsafe(no_mangle)]
-pub extern "C" fn hub_covers(earlier: &[u8], later: &[u8], standard: bool) -> u32
+pub fn hub_covers(earlier: &[u8], later: &[u8], standard: bool) -> u32
     ensures { result ≡ pair_covers standard earlier.now later.now }
 {
     let number = pair_refusal(earlier, later);
@@ -41,8 +40,7 @@ pub extern "C" fn hub_covers(earlier: &[u8], later: &[u8], standard: bool) -> u3
 }
 
 // A name that the later pattern matches and the earlier does not.
-#[unsafe(no_mangle)]
-pub extern "C" fn hub_witness(earlier: &[u8], later: &[u8], standard: bool) -> PairWitness
+pub fn hub_witness(earlier: &[u8], later: &[u8], standard: bool) -> PairWitness
     ensures { result ≡ pair_witness standard earlier.now later.now }
 {
     let number = pair_refusal(earlier, later);

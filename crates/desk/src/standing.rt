@@ -7,8 +7,7 @@ use trace::run::TraceEnd;
 use trace::standing::write_standing;
 
 // The lines that follow a trace's answer, into the caller's buffer; 28 where that is too short, with nothing written. The rules are matched as the Rust does.
-#[unsafe(no_mangle)]
-pub extern "C" fn hub_standing(text: &[u8], out: &mut [u8]) -> TraceEnd
+pub fn hub_standing(text: &[u8], out: &mut [u8]) -> TraceEnd
     ensures answer { result ≡ standing_end Matching.Port (length out.old) text.now }
     ensures buffer { out.new ≡ standing_kept Matching.Port out.old text.now }
 {
@@ -16,8 +15,7 @@ pub extern "C" fn hub_standing(text: &[u8], out: &mut [u8]) -> TraceEnd
 }
 
 // The same with rules that are matched as MQTT 3.1.1 section 4.7 has it.
-#[unsafe(no_mangle)]
-pub extern "C" fn hub_standing_standard(text: &[u8], out: &mut [u8]) -> TraceEnd
+pub fn hub_standing_standard(text: &[u8], out: &mut [u8]) -> TraceEnd
     ensures answer { result ≡ standing_end Matching.Standard (length out.old) text.now }
     ensures buffer { out.new ≡ standing_kept Matching.Standard out.old text.now }
 {

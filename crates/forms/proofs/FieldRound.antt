@@ -55,7 +55,13 @@ module _ (key : List ℕ) (low high : ℕ) where
       → number_field s at key low high ≡ line_read n (at + length key) (at + length (key ++ decimal n)) r
   unfolding number_line number_field answered
   number_there kp {s} {at} {r} n h g a =
-      rw (line_there key kp (decimal n) (decimal_plain n) a, line_value key kp (decimal n) (decimal_plain n) a, decimal_read low high n h g, answered)
+      rw (
+        line_there key kp (decimal n) (decimal_plain n) a,
+        line_value key kp (decimal n) (decimal_plain n) a,
+        decimal_read low high n h g,
+        answered,
+        line_there key kp (decimal n) (decimal_plain n) a,
+      )
 
   pub number_back : (s : List ℕ) (at : ℕ) → (number_field s at key low high).number ≡ 0
       → Stands s at (number_line key (number_field s at key low high).value) (number_field s at key low high).next
@@ -86,7 +92,13 @@ module _ (key ws : List ℕ) where
       → word_field s at key ws ≡ line_read n (at + length key) (at + length (key ++ word_text ws n)) r
   unfolding word_line word_field answered
   word_there kp wp d {s} {at} {r} n h a =
-      rw (line_there key kp (word_text ws n) (word_plain ws n wp) a, line_value key kp (word_text ws n) (word_plain ws n wp) a, round.word_read ws n d h, answered)
+      rw (
+        line_there key kp (word_text ws n) (word_plain ws n wp) a,
+        line_value key kp (word_text ws n) (word_plain ws n wp) a,
+        round.word_read ws n d h,
+        answered,
+        line_there key kp (word_text ws n) (word_plain ws n wp) a,
+      )
 
   -- a value that is none of the words is 23
   pub word_not_there : every in_line key ≡ true → (v : List ℕ) → every in_line v ≡ true → word_of ws v ≡ Bad → {s : List ℕ} {at r : ℕ} → Stands s at (key ++ v ++ (10 ∷ [])) r

@@ -174,9 +174,9 @@ module _ {A : Type 0} (F : List A → Form A) (f : (acc : List A) → Round (F a
       → read_all F (length v) acc s at line ≡ took v r (line + count_all F acc v)
   unfolding text_all count_all read_all
   all_there line acc [] h a = took_eq refl (omega (arith, a.next)) (omega arith)
-  all_there line acc (x ∷ v) (fit_more hx hv) a =
+  all_there {at = at} line acc (x ∷ v) (fit_more hx hv) a =
       let y = (f acc).there line hx (stands_first ((F acc).text x) (text_all F (acc ++ (x ∷ [])) v) a) in
-      let z = all_there (line + (F acc).count x) (acc ++ (x ∷ [])) v hv (stands_second ((F acc).text x) (text_all F (acc ++ (x ∷ [])) v) a) in
+      let z = all_there {at = at + length ((F acc).text x)} (line + (F acc).count x) (acc ++ (x ∷ [])) v hv (stands_second ((F acc).text x) (text_all F (acc ++ (x ∷ [])) v) a) in
       rw (on_took-took _ y, on_took-took _ z) (took_eq refl refl (omega arith))
 
   all_back : (k : ℕ) (acc : List A) (s : List ℕ) (at line : ℕ) {v : List A} {r l : ℕ} → read_all F k acc s at line ≡ took v r l

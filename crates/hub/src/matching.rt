@@ -13,32 +13,28 @@ use topics::patterns::{pattern_refusal, validate_mqtt_wildcard};
 use topics::utf8::is_utf8;
 
 // Whether bytes are UTF-8 (MQTT 3.1.1 section 1.5.3); a zero byte, which is U+0000, passes.
-#[unsafe(no_mangle)]
-pub extern "C" fn hub_is_utf8(bytes: &[u8]) -> bool
+pub fn hub_is_utf8(bytes: &[u8]) -> bool
     ensures { result ≡ is_utf8 bytes.now }
 {
     is_utf8(bytes)
 }
 
 // Whether a pattern's wildcards are well placed; no for an empty one.
-#[unsafe(no_mangle)]
-pub extern "C" fn hub_validate_mqtt_wildcard(pattern: &[u8]) -> bool
+pub fn hub_validate_mqtt_wildcard(pattern: &[u8]) -> bool
     ensures { result ≡ valid_wildcards pattern.now }
 {
     validate_mqtt_wildcard(pattern)
 }
 
 // 0 for a pattern that `add_rule` takes, else 9, or 36 for one that is not UTF-8.
-#[unsafe(no_mangle)]
-pub extern "C" fn hub_pattern_refusal(pattern: &[u8]) -> u32
+pub fn hub_pattern_refusal(pattern: &[u8]) -> u32
     ensures { result ≡ pattern_refusal pattern.now }
 {
     pattern_refusal(pattern)
 }
 
 // The port's matcher, as the Rust answers on any pattern.
-#[unsafe(no_mangle)]
-pub extern "C" fn hub_topic_matches(topic: &[u8], pattern: &[u8]) -> bool
+pub fn hub_topic_matches(topic: &[u8], pattern: &[u8]) -> bool
     ensures { result ≡ port_matches topic.now pattern.now }
 {
     topic_matches(topic, pattern)
@@ -46,32 +42,28 @@ pub extern "C" fn hub_topic_matches(topic: &[u8], pattern: &[u8]) -> bool
 
 // The standard matcher: MQTT 3.1.1 section 4.7, with 4.7.2: a leading wildcard takes no name that begins with a dollar sign.
 // An enum does not pass: 0 is no, 1 yes, 9 outside its domain.
-#[unsafe(no_mangle)]
-pub extern "C" fn hub_standard_matches(name: &[u8], pattern: &[u8]) -> u32
+pub fn hub_standard_matches(name: &[u8], pattern: &[u8]) -> u32
     ensures { result ≡ match_number (standard_matches name.now pattern.now) }
 {
     match_number(standard_matches(name, pattern))
 }
 
 // Exactly `#`, `+` or `+/#`.
-#[unsafe(no_mangle)]
-pub extern "C" fn hub_is_broad_wildcard_subscribe(topic: &[u8]) -> bool
+pub fn hub_is_broad_wildcard_subscribe(topic: &[u8]) -> bool
     ensures { result ≡ is_broad topic.now }
 {
     is_broad_wildcard_subscribe(topic)
 }
 
 // A leading dollar.
-#[unsafe(no_mangle)]
-pub extern "C" fn hub_starts_with_dollar(topic: &[u8]) -> bool
+pub fn hub_starts_with_dollar(topic: &[u8]) -> bool
     ensures { result ≡ starts_with_dollar topic.now }
 {
     starts_with_dollar(topic)
 }
 
 // A zero byte, `+` or `#`.
-#[unsafe(no_mangle)]
-pub extern "C" fn hub_contains_invalid_publish_char(topic: &[u8]) -> bool
+pub fn hub_contains_invalid_publish_char(topic: &[u8]) -> bool
     ensures { result ≡ bad_publish topic.now }
 {
     contains_invalid_publish_char(topic)

@@ -6,8 +6,7 @@ use topics::matching::Matching;
 use trace::run::{TraceEnd, run_trace, run_trace_by, trace_length, trace_length_by};
 
 // Text in, text out, into the caller's buffer; 28 where that is too short, with nothing written. The rules are matched as the Rust does.
-#[unsafe(no_mangle)]
-pub extern "C" fn hub_trace(text: &[u8], out: &mut [u8]) -> TraceEnd
+pub fn hub_trace(text: &[u8], out: &mut [u8]) -> TraceEnd
     ensures answer { result ≡ trace_end Matching.Port (length out.old) text.now }
     ensures buffer { out.new ≡ trace_kept Matching.Port out.old text.now }
 {
@@ -15,16 +14,14 @@ pub extern "C" fn hub_trace(text: &[u8], out: &mut [u8]) -> TraceEnd
 }
 
 // What `hub_trace` hands back where there is room for all lines: its length is the room that it needs.
-#[unsafe(no_mangle)]
-pub extern "C" fn hub_trace_length(text: &[u8]) -> TraceEnd
+pub fn hub_trace_length(text: &[u8]) -> TraceEnd
     ensures { result ≡ whole_end Matching.Port text.now }
 {
     trace_length(text)
 }
 
 // The same text in and the same lines out, with rules that are matched as MQTT 3.1.1 section 4.7 has it.
-#[unsafe(no_mangle)]
-pub extern "C" fn hub_trace_standard(text: &[u8], out: &mut [u8]) -> TraceEnd
+pub fn hub_trace_standard(text: &[u8], out: &mut [u8]) -> TraceEnd
     ensures answer { result ≡ trace_end Matching.Standard (length out.old) text.now }
     ensures buffer { out.new ≡ trace_kept Matching.Standard out.old text.now }
 {
@@ -32,8 +29,7 @@ pub extern "C" fn hub_trace_standard(text: &[u8], out: &mut [u8]) -> TraceEnd
 }
 
 // What `hub_trace_standard` hands back where there is room for all lines.
-#[unsafe(no_mangle)]
-pub extern "C" fn hub_trace_standard_length(text: &[u8]) -> TraceEnd
+pub fn hub_trace_standard_length(text: &[u8]) -> TraceEnd
     ensures { result ≡ whole_end Matching.Standard text.now }
 {
     trace_length_by(text, Matching::Standard)

@@ -3,6 +3,8 @@
 // way in and out. What `read` and `write` move, and the words behind the program's name, are the C library's word.
 // A program has no exit status of its own: it says on standard error what failed, and nothing where nothing did. `bin/hubpackets` makes a status of that. Where a capture stops being MQTT 3.1.1 the
 // number and the byte are said there too, and what stands before that packet has been written; and where a settings text is refused the number and the line, and nothing has.
+#![tactic(auto)]
+
 pub mod asked;
 mod inspected;
 
@@ -11,19 +13,21 @@ ghost use Rattle.streams.specs.Turns.{DoneWithin};
 
 use asked::Asked;
 use inspected::{load_read, run_read};
-use libc::{STDERR_FILENO, STDIN_FILENO, STDOUT_FILENO};
 use lines::put::put_number_line;
 use monitor::state::MqttMonitor;
 use packets::packet::read_packet;
 use packets_text::written::packet_lines;
 use streams::turn::Done;
-use streams::{input, output};
+use streams::{input, output, said};
+
+// Standard error.
+const STDERR_FILENO: i32 = 2;
 
 // How long a capture may be.
 const CAPTURE_MAX: usize = 1048576;
 
-// Where the settings text is read from: a descriptor of its own, so that each of the two inputs has an end, and a failed read of either is seen here.
-const SETTINGS_FILENO: i32 = 3;
+// Where the settings text is read from: descriptor 3, by its name, so that each of the two inputs has an end, and a failed read of either is seen here.
+const SETTINGS: &str = "/dev/fd/3";
 
 // Room for the longest capture, and for one byte more, by which a longer one is known.
 fn capture_buffer() -> [u8; 1048577]
@@ -70,26 +74,33 @@ fn refuse(number: u32, line: u64) {
 }
 
 // Reads a capture; or says what failed.
-fn read_capture(capture: &mut [u8]) -> Done
+fn read_capture(rt: &HostRuntime, capture: &mut [u8]) -> Done
     ensures { DoneWithin result (length capture.new) }
 {
-    let read = input::read_all(STDIN_FILENO, capture);
-    let Done::Bytes(n) = read else {
-        os::fail(b"hubpackets: the capture could not be read, so nothing was written");
-        return Done::Failed;
+    let read = input::read_all(&mut rt.stdin(), capture);
+    let n = match read {
+        Done::Bytes(n) => n,
+        Done::Failed(error) => {
+            said::fail(
+                rt,
+                "hubpackets: the capture could not be read, so nothing was written",
+                error,
+            );
+            return read;
+        }
     };
     if CAPTURE_MAX < n {
         io::write_all(
             STDERR_FILENO,
             b"hubpackets: the capture has more than 1,048,576 bytes; cut it where a packet begins\n",
         );
-        return Done::Failed;
+        return Done::Failed(0);
     }
     Done::Bytes(n)
 }
 
 // The lines of packet after packet, up to the capture's end or to the first that is refused.
-fn packets_of(bytes: &[u8], at: u64, ok: bool, out: &mut [u8]) {
+fn packets_of(rt: &HostRuntime, bytes: &[u8], at: u64, ok: bool, out: &mut [u8]) {
     let mut place: usize = 0;
     while place < bytes.len() {
         let packet = read_packet(bytes, place);
@@ -102,9 +113,9 @@ fn packets_of(bytes: &[u8], at: u64, ok: bool, out: &mut [u8]) {
             stop(lines.number, place);
             return;
         }
-        let written = output::write_all(STDOUT_FILENO, &out[..lines.length]);
-        if let Done::Failed = written {
-            os::fail(b"hubpackets: the lines were not written whole");
+        let written = output::write_all(&mut rt.stdout(), &out[..lines.length]);
+        if let Done::Failed(error) = written {
+            said::fail(rt, "hubpackets: the lines were not written whole", error);
             return;
         }
         place += packet.length;
@@ -112,26 +123,26 @@ fn packets_of(bytes: &[u8], at: u64, ok: bool, out: &mut [u8]) {
 }
 
 // Reads a capture, and writes its lines; or says what failed.
-fn tell(capture: &mut [u8], at: u64, ok: bool) {
-    let read = read_capture(capture);
+fn tell(rt: &HostRuntime, capture: &mut [u8], at: u64, ok: bool) {
+    let read = read_capture(rt, capture);
     let Done::Bytes(n) = read else {
         return;
     };
     let mut out = lines_buffer();
-    packets_of(&capture[..n], at, ok, &mut out);
+    packets_of(rt, &capture[..n], at, ok, &mut out);
 }
 
 // Reads a capture, and writes the records of its messages under a monitor, up to the capture's end or to the packet at which the run ends; or says what failed.
-fn inspect(monitor: MqttMonitor, capture: &mut [u8], at: u64, ok: bool) {
-    let read = read_capture(capture);
-    if let Done::Failed = read {
+fn inspect(rt: &HostRuntime, monitor: MqttMonitor, capture: &mut [u8], at: u64, ok: bool) {
+    let read = read_capture(rt, capture);
+    if let Done::Failed(_) = read {
         return;
     }
     let mut out = records_buffer();
     let end = run_read(monitor, read, capture, at, ok, &mut out);
-    let written = output::write_all(STDOUT_FILENO, &out[..end.length]);
-    if let Done::Failed = written {
-        os::fail(b"hubpackets: the records were not written whole");
+    let written = output::write_all(&mut rt.stdout(), &out[..end.length]);
+    if let Done::Failed(error) = written {
+        said::fail(rt, "hubpackets: the records were not written whole", error);
         return;
     }
     if end.number != 0 {
@@ -140,11 +151,16 @@ fn inspect(monitor: MqttMonitor, capture: &mut [u8], at: u64, ok: bool) {
 }
 
 // Reads a settings text, and inspects a capture under it; or says what failed. The settings come first: where they are refused nobody waits for a capture.
-fn inspect_under(capture: &mut [u8], at: u64, ok: bool) {
+#[inline(never)]
+fn inspect_under(rt: &HostRuntime, capture: &mut [u8], at: u64, ok: bool) {
     let mut text = text_buffer();
-    let read = input::read_all(SETTINGS_FILENO, &mut text);
-    if let Done::Failed = read {
-        os::fail(b"hubpackets: the settings text could not be read, so nothing was written");
+    let read = input::read_named(rt, SETTINGS, &mut text);
+    if let Done::Failed(error) = read {
+        said::fail(
+            rt,
+            "hubpackets: the settings text could not be read, so nothing was written",
+            error,
+        );
         return;
     }
     let settings = load_read(read, &text);
@@ -152,12 +168,12 @@ fn inspect_under(capture: &mut [u8], at: u64, ok: bool) {
         refuse(settings.number, settings.line);
         return;
     }
-    inspect(settings.monitor, capture, at, ok);
+    inspect(rt, settings.monitor, capture, at, ok);
 }
 
 // The capture's buffer is here, one for both ways: what is built into `main` takes its stack whichever way is gone.
-fn main() {
-    let asked = asked::by_words();
+fn main(rt: HostRuntime) {
+    let asked = asked::by_words(&rt);
     if !asked.known {
         io::write_all(
             STDERR_FILENO,
@@ -167,8 +183,8 @@ fn main() {
     }
     let mut capture = capture_buffer();
     if asked.inspect {
-        inspect_under(&mut capture, asked.at, asked.ok);
+        inspect_under(&rt, &mut capture, asked.at, asked.ok);
         return;
     }
-    tell(&mut capture, asked.at, asked.ok);
+    tell(&rt, &mut capture, asked.at, asked.ok);
 }

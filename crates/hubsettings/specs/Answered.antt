@@ -10,21 +10,21 @@ use Rattle.streams.specs.declared.turn.Done.TheVariants.{Bytes, Failed}
 
 unfoldable pub answer_to : Done → List ℕ → List ℕ
 answer_to (Bytes n) s = told_text (take n s)
-answer_to Failed s = []
+answer_to (Failed error) s = []
 
 unfoldable pub dead_to : Done → List ℕ → List ℕ
 dead_to (Bytes n) s = dead_text (take n s)
-dead_to Failed s = []
+dead_to (Failed error) s = []
 
 unfoldable pub pair_to : ℕ → ℕ → Done → List ℕ → List ℕ
 pair_to later earlier (Bytes n) s = pair_text later earlier (take n s)
-pair_to later earlier Failed s = []
+pair_to later earlier (Failed error) s = []
 
 unfoldable pub turn_to : ℕ → Done → List ℕ → List ℕ
 turn_to form (Bytes n) s = turned_text form (take n s)
-turn_to form Failed s = []
+turn_to form (Failed error) s = []
 
 -- how that ended, in a buffer of some length
 unfoldable pub turn_end : ℕ → ℕ → Done → List ℕ → SettingsTold
 turn_end form room (Bytes n) s = turned_end form room (take n s)
-turn_end form room Failed s = record { number = 0; line = 0; length = 0 }
+turn_end form room (Failed error) s = record { number = 0; line = 0; length = 0 }

@@ -8,8 +8,8 @@ use Rattle.streams.specs.declared.turn.Done.TheVariants.{Bytes, Failed}
 
 unfoldable pub answer_to : Matching → Done → List ℕ → List ℕ
 answer_to matching (Bytes n) s = trace_text matching (take n s)
-answer_to matching Failed s = []
+answer_to matching (Failed error) s = []
 
 unfoldable pub standing_after : Matching → Done → List ℕ → List ℕ
 standing_after matching (Bytes n) s = standing_text matching (take n s)
-standing_after matching Failed s = []
+standing_after matching (Failed error) s = []

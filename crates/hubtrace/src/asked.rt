@@ -1,12 +1,15 @@
 // What the program is asked for, by the words behind its name: the matcher of the rules (request C-15), and then whether it is to say where the limit stands.
 ghost use Rattle.std.specs.Prelude.{◌≡◌};
+ghost use Rattle.io.specs.Counts.{IsPrefixLen};
 ghost use Rattle.hubtrace.specs.Asked.{asked_by, asked_beside, asked_too};
 
 use slices::bytes::same_bytes;
+use std::env::FillError;
+use std::rt::Env;
 use topics::matching::Matching;
 
 // A matcher; a matcher, and where the limit stands; or a word that the program does not know.
-#[derive(Drop)]
+#[derive(Clone, Copy)]
 pub enum Asked {
     For(Matching),
     Standing(Matching),
@@ -47,27 +50,44 @@ pub fn too(asked: Asked, word: &[u8]) -> Asked
     }
 }
 
+// A word, at the beginning of `word`, and its length: none where it is not there, or longer than `word`.
+fn word_at<R: Env>(rt: &R, k: usize, word: &mut [u8]) -> usize
+    ensures { IsPrefixLen result word.new }
+{
+    match rt.arg(k, word) {
+        Ok(n) => n,
+        Err(_) => 0,
+    }
+}
+
+// Whether there is such a word.
+fn is_there<R: Env>(rt: &R, k: usize) -> bool {
+    match rt.arg(k, &mut []) {
+        Err(FillError::NotPresent) => false,
+        _ => true,
+    }
+}
+
 // What the first word asks for.
-fn by_first() -> Asked {
+fn by_first<R: Env>(rt: &R) -> Asked {
     let mut word = [0u8; 32];
-    let n = os::arg(1, &mut word);
+    let n = word_at(rt, 1, &mut word);
     by_word(&word[..n])
 }
 
 // What the program is asked for: without a word, what document 01 has.
-pub fn by_words() -> Asked {
-    let words = os::arg_count();
-    if words < 2 {
+pub fn by_words<R: Env>(rt: &R) -> Asked {
+    if !is_there(rt, 1) {
         return Asked::For(Matching::Port);
     }
-    if 3 < words {
+    if is_there(rt, 3) {
         return Asked::Unknown;
     }
-    let asked = by_first();
-    if words == 2 {
+    let asked = by_first(rt);
+    if !is_there(rt, 2) {
         return asked;
     }
     let mut word = [0u8; 32];
-    let n = os::arg(2, &mut word);
+    let n = word_at(rt, 2, &mut word);
     too(asked, &word[..n])
 }

@@ -2,6 +2,8 @@
 // `trace::run::run_trace_by` and `trace::standing::write_standing`; here are only the two buffers and the way in and out. That an answer is whole is promised by `answer` and `stand`; what `read` and
 // `write` move, and the words behind the program's name, are the C library's word. With `--match=standard` the rules are matched as MQTT 3.1.1 section 4.7 has it, else as the Rust does.
 // A program has no exit status of its own: it says on standard error what failed, and nothing where nothing did. `bin/hubtrace` makes a status of that.
+#![tactic(auto)]
+
 mod asked;
 
 ghost use Rattle.std.specs.Prelude.{◌≡◌, length, take};
@@ -11,9 +13,8 @@ ghost use Rattle.hubtrace.specs.Answered.{answer_to, standing_after};
 ghost use Rattle.streams.specs.Turns.{DoneWithin};
 
 use asked::Asked;
-use libc::{STDERR_FILENO, STDIN_FILENO, STDOUT_FILENO};
 use streams::turn::Done;
-use streams::{input, output};
+use streams::{input, output, said};
 use topics::matching::Matching;
 use trace::{run, standing};
 
@@ -34,7 +35,7 @@ fn answer_buffer() -> [u8; 786432]
 // The answer to what was read at the beginning of `out`, and its length. There is room for all of it, so 28 never happens. A failed read is not answered.
 fn answer(matching: Matching, read: Done, text: &[u8], out: &mut [u8]) -> usize
     requires done_within { DoneWithin read (length text.now) }
-    requires enough_value { enough ≡ length out.old }
+    requires room { enough ≡ length out.old }
     ensures prefix_len { IsPrefixLen result out.new }
     ensures out_after { take result out.new ≡ answer_to matching read text.now }
 {
@@ -48,7 +49,7 @@ fn answer(matching: Matching, read: Done, text: &[u8], out: &mut [u8]) -> usize
 // Where the limit stands after it, in the same way; there is room for all of that too.
 fn stand(matching: Matching, read: Done, text: &[u8], out: &mut [u8]) -> usize
     requires done_within { DoneWithin read (length text.now) }
-    requires enough_value { enough ≡ length out.old }
+    requires room { enough ≡ length out.old }
     ensures prefix_len { IsPrefixLen result out.new }
     ensures out_after { take result out.new ≡ standing_after matching read text.now }
 {
@@ -59,35 +60,42 @@ fn stand(matching: Matching, read: Done, text: &[u8], out: &mut [u8]) -> usize
     end.length
 }
 
+// Standard error.
+const STDERR_FILENO: i32 = 2;
+
 // Writes the answer, and says so where that failed.
-fn print(answer: &[u8]) {
-    let written = output::write_all(STDOUT_FILENO, answer);
-    if let Done::Failed = written {
-        os::fail(b"hubtrace: the answer was not written whole");
+fn print(rt: &HostRuntime, answer: &[u8]) {
+    let written = output::write_all(&mut rt.stdout(), answer);
+    if let Done::Failed(error) = written {
+        said::fail(rt, "hubtrace: the answer was not written whole", error);
     }
 }
 
 // Reads a trace, and writes its answer, and where it is asked for where the limit stands then; or says what failed.
-fn run(matching: Matching, standing: bool) {
+fn run(rt: &HostRuntime, matching: Matching, standing: bool) {
     let mut text = text_buffer();
-    let read = input::read_all(STDIN_FILENO, &mut text);
+    let read = input::read_all(&mut rt.stdin(), &mut text);
     let mut out = answer_buffer();
     let length = answer(matching, read, &text, &mut out);
     match read {
-        Done::Failed => os::fail(b"hubtrace: the trace could not be read, so nothing was answered"),
-        Done::Bytes(_) => print(&out[..length]),
+        Done::Failed(error) => said::fail(
+            rt,
+            "hubtrace: the trace could not be read, so nothing was answered",
+            error,
+        ),
+        Done::Bytes(_) => print(rt, &out[..length]),
     }
     if standing {
         let more = stand(matching, read, &text, &mut out);
-        print(&out[..more]);
+        print(rt, &out[..more]);
     }
 }
 
-fn main() {
-    let asked = asked::by_words();
+fn main(rt: HostRuntime) {
+    let asked = asked::by_words(&rt);
     match asked {
-        Asked::For(matching) => run(matching, false),
-        Asked::Standing(matching) => run(matching, true),
+        Asked::For(matching) => run(&rt, matching, false),
+        Asked::Standing(matching) => run(&rt, matching, true),
         Asked::Unknown => {
             io::write_all(
                 STDERR_FILENO,

@@ -9,7 +9,7 @@ use packets_text::written::{PacketLines, packet_lines};
 
 // What a packet is to a caller that does not step through its messages: 0 or the number that refuses it, its length, and how many messages it has.
 #[repr(C)]
-#[derive(Drop)]
+#[derive(Clone, Copy)]
 pub struct PacketSize {
     pub number: u32,
     pub length: usize,
@@ -17,8 +17,7 @@ pub struct PacketSize {
 }
 
 // The packet at a place, any place: 31 where no byte stands there.
-#[unsafe(no_mangle)]
-pub extern "C" fn hub_packet(bytes: &[u8], place: usize) -> PacketSize
+pub fn hub_packet(bytes: &[u8], place: usize) -> PacketSize
     ensures { result ≡ sized_of (packet_at bytes.now place) }
 {
     let p = read_packet(bytes, place);
@@ -30,8 +29,7 @@ pub extern "C" fn hub_packet(bytes: &[u8], place: usize) -> PacketSize
 }
 
 // Its messages as the lines of a trace, into the caller's buffer: all of them, or none where a number refuses them.
-#[unsafe(no_mangle)]
-pub extern "C" fn hub_packet_lines(
+pub fn hub_packet_lines(
     bytes: &[u8],
     place: usize,
     at: u64,

@@ -12,7 +12,7 @@ module _ {A H : Type 0} (f : H → A → H) where
   -- what is true at the start and kept by each step is true at the end
   pub fold_keeps : (P : H → Type 0) → ((h : H) (a : A) → P h → P (f h a)) → {h : H} (s : List A) → P h → P (foldl f h s)
   fold_keeps P k [] p = p
-  fold_keeps P k {h} (a ∷ s) p = fold_keeps P k s (k h a p)
+  fold_keeps P k {h = h} (a ∷ s) p = fold_keeps P k {h = f h a} s (k h a p)
 
   module _ (s : List A) where
     -- the fold over what is left takes the next element first

@@ -57,7 +57,7 @@ pub fn line_here<'a>(r: TraceReader<'a>) -> Span
 
 // The line at `at`, through a reader.
 pub fn span_from(text: &[u8], at: usize) -> Span
-    ensures { result ≡ span_of text.now at }
+    ensures { result ≡ span_of text.now at } // as `span_at` has it
 {
     line_here(new(text, at))
 }

@@ -1,6 +1,8 @@
 // Asks every reader and writer of `lines` what stands in standard input, one question to a line, and writes the answer beside it. A question is `NAME ARG.. [TEXT]`: the
 // function's name, its arguments in the order that `readers` and `writers` give, and its text or value, in which `;` stands for an LF and `~` for a CR, so that places
 // can be counted by eye. An argument `-` is empty. A line that begins with `#` is a heading. The file `stdout` has the answers of document 01, "The trace".
+#![tactic(auto)]
+
 mod parts;
 mod readers;
 mod say;
@@ -10,9 +12,10 @@ use crate::say::say;
 use cut::args::arg;
 use cut::swap::swap;
 use cut::{after, before, upto};
-use libc::STDIN_FILENO;
 use lines::put;
 use slices::bytes::starts_with;
+
+const STDIN_FILENO: i32 = 0;
 
 // A question: of a writer or of a reader.
 fn ask(q: &[u8]) {

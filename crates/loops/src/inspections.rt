@@ -79,7 +79,7 @@ fn loop_message(topic_len: u8, size: u16, k: u32) -> MqttMessage
 }
 
 // The rules of a monitor: the first so many places of the table.
-#[derive(Drop)]
+#[derive(Clone, Copy)]
 pub struct HeldRules {
     pub rule_count: u16,
     pub rules: [TopicRule; RULES],
@@ -147,8 +147,7 @@ fn count_if(n: u64, allowed: bool) -> u64
 }
 
 // How many rules the loop's monitor has, by which a host sees that none was refused. It also gives `readied` a second caller: so it stays a call, and its stack is not the loop's.
-#[unsafe(no_mangle)]
-pub extern "C" fn hub_loop_rules(rules: u32) -> u16
+pub fn hub_loop_rules(rules: u32) -> u16
     ensures { result ≡ (readied (min (max rules 1) 32 - 1)).rule_count }
 {
     let m = readied(within(rules, 32) - 1);
@@ -156,8 +155,7 @@ pub extern "C" fn hub_loop_rules(rules: u32) -> u16
 }
 
 // How many of so many messages of one size are allowed, under 1 to 32 rules and on lent topics of one width in turn; 0 where a topic has more than 128 bytes or none is lent whole.
-#[unsafe(no_mangle)]
-pub extern "C" fn hub_loop(rules: u32, topics: &[u8], width: u8, size: u16, messages: u32) -> u64
+pub fn hub_loop(rules: u32, topics: &[u8], width: u8, size: u16, messages: u32) -> u64
     ensures { result ≡ loop_allowed (min (max rules 1) 32 - 1) topics.now width size messages }
 {
     let wide = width as usize;

@@ -6,7 +6,7 @@ ghost use Rattle.monitor.specs.Alerts.{severity_number, severity_of, hash_of, wh
 // How many alerts a message can raise.
 pub const ALERTS: usize = 4;
 
-#[derive(Drop)]
+#[derive(Clone, Copy)]
 pub enum AlertSeverity {
     Info,
     Low,
@@ -16,7 +16,7 @@ pub enum AlertSeverity {
 }
 
 // `source_id` is the alert's kind, 1 to 11.
-#[derive(Drop)]
+#[derive(Clone, Copy)]
 pub struct SecurityAlert {
     pub id: u64,
     pub timestamp_us: u64,
@@ -25,7 +25,7 @@ pub struct SecurityAlert {
     pub source_id: u32,
 }
 
-#[derive(Drop)]
+#[derive(Clone, Copy)]
 pub struct MqttInspectResult {
     pub allowed: bool,
     pub alert_count: u8,
@@ -33,7 +33,7 @@ pub struct MqttInspectResult {
 }
 
 // The alerts of one message, and the counters after them.
-#[derive(Drop)]
+#[derive(Clone, Copy)]
 pub struct Raised {
     pub count: u8,
     pub alerts: [SecurityAlert; ALERTS],

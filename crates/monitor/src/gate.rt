@@ -13,7 +13,7 @@ use topics::names::{
 };
 
 // How far a message came in the order of one inspection: it ended before rule choice, no rule took its topic, or the rule at a place did.
-#[derive(Drop)]
+#[derive(Clone, Copy)]
 pub enum Stage {
     Early,
     NoRule,
@@ -21,7 +21,7 @@ pub enum Stage {
 }
 
 // What the first matching rule says; where there is none, the default with any QoS and no rate.
-#[derive(Drop)]
+#[derive(Clone, Copy)]
 pub struct Ruling {
     pub found: bool,
     pub at: usize,
@@ -31,7 +31,7 @@ pub struct Ruling {
 }
 
 // `denial`: the kind that denies, 0 for none. `rate` above 0: the limiter is asked. `feeds`: the tracker is.
-#[derive(Drop)]
+#[derive(Clone, Copy)]
 pub struct Gate {
     pub stage: Stage,
     pub denial: u32,

@@ -10,7 +10,7 @@ pub const TOPIC_MAX: usize = 128;
 
 pub const PAYLOAD_MAX: usize = 256;
 
-#[derive(Drop)]
+#[derive(Clone, Copy)]
 pub enum MqttPacketType {
     Connect,
     ConnAck,
@@ -30,7 +30,7 @@ pub enum MqttPacketType {
 }
 
 // `payload_len` is the size, which feeds the tracker; `payload_inspectable_len` is the claimed length of the lent payload, which is hashed.
-#[derive(Drop)]
+#[derive(Clone, Copy)]
 pub struct MqttMessage {
     pub packet_type: MqttPacketType,
     pub topic_len: u8,

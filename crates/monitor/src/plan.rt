@@ -76,10 +76,10 @@ fn hash_if(wanted: bool, payload: &[u8]) -> [u8; 32]
 }
 
 // The kind by which the limiter denies, 0 for none.
-pub(crate) fn limiter_kind(res: RateCheckResult) -> u32
-    ensures { result ≡ limiter_kind res }
+pub(crate) fn limiter_kind(checked: RateCheckResult) -> u32
+    ensures { result ≡ limiter_kind checked }
 {
-    match res {
+    match checked {
         RateCheckResult::Allowed => 0,
         RateCheckResult::Limited => 5,
         RateCheckResult::EvictedAndDenied => 6,
@@ -87,8 +87,8 @@ pub(crate) fn limiter_kind(res: RateCheckResult) -> u32
 }
 
 // The one kind that denies, 0 for none.
-fn denial_for(storm: bool, denial: u32, res: RateCheckResult) -> u32
-    ensures { result ≡ cond storm 1 (cond (ltb 0 denial) denial (limiter_kind res)) }
+fn denial_for(storm: bool, denial: u32, checked: RateCheckResult) -> u32
+    ensures { result ≡ cond storm 1 (cond (ltb 0 denial) denial (limiter_kind checked)) }
 {
     if storm {
         return 1;
@@ -96,7 +96,7 @@ fn denial_for(storm: bool, denial: u32, res: RateCheckResult) -> u32
     if 0 < denial {
         return denial;
     }
-    limiter_kind(res)
+    limiter_kind(checked)
 }
 
 // Whether the limiter or the tracker is asked.

@@ -15,7 +15,7 @@ use tables::windows::{ClientStormEntry, WINDOWS, empty_window, window_fine};
 use topics::matching::Matching;
 
 // `matching` is the matcher that the rules are chosen by. The Rust has no such field: its own is `Port` (request C-15). A constructor sets it, and no call changes it.
-#[derive(Drop)]
+#[derive(Clone, Copy)]
 pub struct MqttMonitor {
     pub rules: [TopicRule; RULES],
     pub rule_count: u16,

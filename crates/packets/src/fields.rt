@@ -7,7 +7,7 @@ use slices::bytes::has_byte;
 use topics::utf8::is_utf8;
 
 // A field: its number, for one that is a number; its bytes are from..next, and the next field begins at `next`.
-#[derive(Drop)]
+#[derive(Clone, Copy)]
 pub struct Field {
     pub fine: bool,
     pub value: usize,

@@ -10,7 +10,7 @@ use tables::rules::{MqttQoS, qos_at};
 
 // A message of a packet: 0, or the number that says why there is none; the message as the monitor takes it; the places of its topic and of the inspected part of its payload in the bytes; and the step
 // of the next one.
-#[derive(Drop)]
+#[derive(Clone, Copy)]
 pub struct PacketMessage {
     pub number: u32,
     pub msg: MqttMessage,

@@ -6,7 +6,7 @@ use crate::bodies::{body_built, first_step, look_at};
 use crate::header::read_header;
 
 // What a packet is: 0, 31, 32 or 33; its length from its first byte; how many messages it has, and the step of the first, for `message_at`. A refused one has no length and no message.
-#[derive(Drop)]
+#[derive(Clone, Copy)]
 pub struct Packet {
     pub number: u32,
     pub length: usize,

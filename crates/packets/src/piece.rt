@@ -3,7 +3,7 @@ ghost use Rattle.std.specs.Prelude.{◌≡◌};
 ghost use Rattle.packets.specs.Piece.{no_piece, plain_piece};
 
 // A piece of a body, `fine` if it was read: the topic is at from..to, the payload begins at `rest`, and the next piece at `next`.
-#[derive(Drop)]
+#[derive(Clone, Copy)]
 pub struct Piece {
     pub fine: bool,
     pub qos: u8,

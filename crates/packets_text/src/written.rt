@@ -59,8 +59,8 @@ fn put_text(out: &mut [u8], at: usize, bytes: &[u8], place: usize, m: PacketMess
 
 // How many bytes the lines of a packet are that is not refused.
 fn texts_len(bytes: &[u8], place: usize, p: Packet, now_us: u64, ok: bool) -> usize
-    requires p_value { p ≡ packet_at bytes.now place }
-    requires number_value { p.number ≡ 0 }
+    requires packet { p ≡ packet_at bytes.now place }
+    requires taken { p.number ≡ 0 }
     ensures { result ≡ length (packet_text bytes.now place now_us ok) }
 {
     let mut left = p.messages;
@@ -77,8 +77,8 @@ fn texts_len(bytes: &[u8], place: usize, p: Packet, now_us: u64, ok: bool) -> us
 
 // Those lines, at the beginning of a buffer.
 fn put_texts(out: &mut [u8], bytes: &[u8], place: usize, p: Packet, now_us: u64, ok: bool)
-    requires p_value { p ≡ packet_at bytes.now place }
-    requires number_value { p.number ≡ 0 }
+    requires packet { p ≡ packet_at bytes.now place }
+    requires taken { p.number ≡ 0 }
     ensures { out.new ≡ sets out.old 0 (packet_text bytes.now place now_us ok) }
 {
     let mut unwritten = p.messages;

@@ -16,7 +16,7 @@ use topics::matching::Matching;
 use trace::record::{put_record, record_len};
 
 // What of a monitor answers a message that asks no table: the rules, the default, and the matcher.
-#[derive(Drop)]
+#[derive(Clone, Copy)]
 pub struct Rulebook {
     pub rules: [TopicRule; RULES],
     pub count: u16,
@@ -25,7 +25,7 @@ pub struct Rulebook {
 }
 
 // What such messages move: the alert id to come, and the two counts.
-#[derive(Drop)]
+#[derive(Clone, Copy)]
 pub struct Counters {
     pub next_id: u64,
     pub inspected: u64,
@@ -82,8 +82,8 @@ pub(crate) fn fits(
     counters: Counters,
     room: usize,
 ) -> bool
-    requires packet_value { packet ≡ packet_at bytes.now place }
-    requires number_value { packet.number ≡ 0 }
+    requires at_place { packet ≡ packet_at bytes.now place }
+    requires taken { packet.number ≡ 0 }
     requires messages_bound { n + packet.messages < 2 ^ 64 }
     ensures { result ≡ leb (length (light_text book n counters.next_id counters.total (calls_at bytes.now place now_us ok))) room }
 {
@@ -130,8 +130,8 @@ pub(crate) fn put_several(
     n: u64,
     counters: Counters,
 ) -> SeveralEnd
-    requires packet_value { packet ≡ packet_at bytes.now place }
-    requires number_value { packet.number ≡ 0 }
+    requires at_place { packet ≡ packet_at bytes.now place }
+    requires taken { packet.number ≡ 0 }
     requires messages_bound { n + packet.messages < 2 ^ 64 }
     ensures wrote { Wrote out.old out.new at (light_text book n counters.next_id counters.total (calls_at bytes.now place now_us ok)) result.place }
     ensures counters { result.counters ≡ light_after book counters (calls_at bytes.now place now_us ok) }

@@ -1,6 +1,8 @@
 // Asks the port what the Rust original was asked, and compares. A line of standard input is one question with the answer recorded from the original, whose buckets are those
 // of request C-17 (oracle/record): a kind, fields with single blanks between, and the answer; `-` is a field with nothing. `leaves` has the questions on matching and hashes,
 // `traces` those on whole traces. The file `stdout` has what must come out: how many lines of each kind there are, so that none goes missing, and no line that differs.
+#![tactic(auto)]
+
 mod leaves;
 mod say;
 mod traces;
@@ -10,8 +12,9 @@ ghost use Rattle.std.specs.Prelude.{◌≡◌, length};
 use crate::say::{say_all, say_differs, say_unknown};
 use cut::args::rest;
 use cut::{after, before, upto};
-use libc::STDIN_FILENO;
 use slices::bytes::{find_byte, same_bytes};
+
+const STDIN_FILENO: i32 = 0;
 
 // The kind of a line: its first field, if that is one byte.
 fn kind_of(line: &[u8]) -> u8 {

@@ -45,7 +45,8 @@ fit_brief before (a ∷ rs) (fit_more h more) = brief_more (accepted_length a.pa
 abbrev holds : Matching → TopicAction → ℕ → ℕ → List RuleText → MqttMonitor
 holds m d t w rs = with_settings (with_rules (fresh m d) (table_of rs) (length rs)) t w
 
-module _ (P : MqttMonitor → Type 0) (make : (matching : Matching) (default : TopicAction) → P (fresh matching default)) (set_storm_keeps : (m : MqttMonitor) → P m → (t w : ℕ) → P (set_storm m t w).monitor)
+module _ (P : MqttMonitor → Type 0) (make : (matching : Matching) (default : TopicAction) → P (fresh matching default))
+    (set_storm_keeps : (m : MqttMonitor) → P m → (t w : ℕ) → P (set_storm m t w).monitor)
     (add : (m : MqttMonitor) → P m → (p : List ℕ) (action : TopicAction) (policy : QosPolicy) (rate : ℕ) → P (add_rule m p action policy rate).monitor) where
   module _ (m : Matching) (d : TopicAction) (t w : ℕ) where
     -- one rule more

@@ -79,7 +79,7 @@ fn pair_number(found: SettingsRead, later: u64, earlier: u64) -> u32
 
 // What is told of two rules.
 fn put_pair(out: &mut [u8], found: SettingsRead, number: u32, later: u64, earlier: u64) -> usize
-    requires number_value { number ≡ pair_number found later earlier }
+    requires decided { number ≡ pair_number found later earlier }
     requires rule_count_bound { found.rule_count ≤ 32 }
     ensures text { Wrote out.old out.new 0 (pair_of later earlier found) result }
     ensures short { length (pair_of later earlier found) ≤ 16384 }

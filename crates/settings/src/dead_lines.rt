@@ -59,7 +59,7 @@ fn put_dead(
     rule: usize,
     cover: usize,
 ) -> usize
-    requires le_rule { (1 ≤ rule) × (rule ≤ 32) }
+    requires rule_in { (1 ≤ rule) × (rule ≤ 32) }
     requires cover_bound { cover ≤ 32 }
     ensures text { Wrote out.old out.new at (dead_told rules rule cover) result }
     ensures short { length (dead_told rules rule cover) ≤ 300 }

@@ -14,7 +14,7 @@ const TEXT_MAX: usize = 65536;
 
 // What a text gave. Refused: the number and the line, and nothing else of it: the settings are those of a fresh monitor that denies all. Else the settings, the last line, and `rules_from`, where the
 // first rule's lines begin.
-#[derive(Drop)]
+#[derive(Clone, Copy)]
 pub struct SettingsRead {
     pub number: u32,
     pub line: u64,

@@ -1,26 +1,30 @@
-// Standard input, all of it or none: an end of input is told from a read that failed, and a part of a text is never taken for the whole.
+// An input, all of it or none: an end of input is told from a read that failed, and a part of a text is never taken for the whole.
 ghost use Rattle.std.specs.Prelude.{length};
 ghost use Rattle.streams.specs.Turns.{DoneWithin, Fits};
 
 use crate::turn;
 use crate::turn::{Done, Turn};
+use std::fs::File;
+use std::io::Read;
+use std::rt::Files;
+use std::thread::yield_now;
 
 // Reads until the input ends or `buf` is full. A read that was interrupted, or that found a pipe empty, is made again.
-pub fn read_all(fd: i32, buf: &mut [u8]) -> Done
+pub fn read_all<R: Read>(from: &mut R, buf: &mut [u8]) -> Done
     ensures { DoneWithin result (length buf.new) }
 {
     let mut n = 0;
     let mut left = turn::PATIENCE;
     while n < buf.len() {
         if left == 0 {
-            return Done::Failed;
+            return Done::Failed(turn::EIO);
         }
         left -= 1;
-        let turn = read_once(fd, &mut buf[n..]);
+        let turn = read_once(from, &mut buf[n..]);
         match turn {
-            Turn::Failed => return Done::Failed,
+            Turn::Failed(error) => return Done::Failed(error),
             Turn::Again => {
-                libc::sched_yield();
+                yield_now();
             }
             Turn::Moved(more) => {
                 if more == 0 {
@@ -33,9 +37,19 @@ pub fn read_all(fd: i32, buf: &mut [u8]) -> Done
     Done::Bytes(n)
 }
 
-fn read_once(fd: i32, buf: &mut [u8]) -> Turn
+// Reads a file in the same way, by its name.
+pub fn read_named<F: Files>(rt: &F, name: &str, buf: &mut [u8]) -> Done
+    ensures { DoneWithin result (length buf.new) }
+{
+    match File::open(rt, name) {
+        Ok(mut file) => read_all(&mut file, buf),
+        Err(error) => Done::Failed(turn::errno(&error)),
+    }
+}
+
+fn read_once<R: Read>(from: &mut R, buf: &mut [u8]) -> Turn
     ensures { Fits result (length buf.old) }
 {
-    let got = libc::read(fd, buf);
-    turn::came_to(got, os::errno(), buf)
+    let answer = from.read(buf);
+    turn::answered(answer, buf)
 }

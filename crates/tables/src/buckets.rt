@@ -25,7 +25,7 @@ pub(crate) const IDLE_MAX: u64 = 300_000_000;
 
 // A bucket. `remainder` has the millionths of a token that were earned and are no whole one yet; `last_refill_us`, named as in 000, is the time of the last message,
 // at the latest time so far, since each message refills.
-#[derive(Drop)]
+#[derive(Clone, Copy)]
 pub struct RateBucket {
     pub id: Id,
     pub tokens: u16,
@@ -43,7 +43,7 @@ pub struct Spent {
 }
 
 // How the limiter ended: a token was spent, there was none, or a live bucket gave way.
-#[derive(Drop)]
+#[derive(Clone, Copy)]
 pub enum RateCheckResult {
     Allowed,
     Limited,
@@ -169,7 +169,7 @@ fn less_one(rate: u16) -> u16
 
 // A message of an identity whose bucket is held at a place.
 fn spent_at(at: usize, held: RateBucket, now_us: u64) -> RateDecision
-    ensures* { λ r. ⌜ r ≡ record { at = at; bucket = (spend held now_us).bucket; result = cond (spend held now_us).ok RateCheckResult.Allowed RateCheckResult.Limited } ⌝ }
+    ensures { result ≡ record { at = at; bucket = (spend held now_us).bucket; result = cond (spend held now_us).ok RateCheckResult.Allowed RateCheckResult.Limited } }
 {
     let spent = consume(held, now_us);
     let bucket = spent.bucket;
@@ -221,7 +221,7 @@ pub(crate) fn find_oldest(buckets: [RateBucket; BUCKETS]) -> usize
 
 // A bucket made in a free or an expired place: the message is allowed.
 fn granted(at: usize, id: Id, rate: u16, now_us: u64) -> RateDecision
-    ensures* { λ r. ⌜ r ≡ record { at = at; bucket = made id rate (rate - 1) now_us; result = RateCheckResult.Allowed } ⌝ }
+    ensures { result ≡ record { at = at; bucket = made id rate (rate - 1) now_us; result = RateCheckResult.Allowed } }
 {
     let bucket = make(id, rate, less_one(rate), now_us);
     RateDecision {

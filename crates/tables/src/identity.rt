@@ -8,7 +8,7 @@ ghost use Rattle.tables.specs.Identity.{prefix_of, id_of, compared, is_of, empty
 pub const PREFIX: usize = 32;
 
 // The Rust keeps these six fields in each bucket and each tracker.
-#[derive(Drop)]
+#[derive(Clone, Copy)]
 pub struct Id {
     pub hash: u32,
     pub hash2: u32,

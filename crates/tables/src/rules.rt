@@ -13,27 +13,27 @@ use topics::patterns::{PATTERN_MAX, pattern_refusal};
 // How many rules a monitor holds.
 pub const RULES: usize = 32;
 
-#[derive(Drop)]
+#[derive(Clone, Copy)]
 pub enum MqttQoS {
     AtMostOnce,
     AtLeastOnce,
     ExactlyOnce,
 }
 
-#[derive(Drop)]
+#[derive(Clone, Copy)]
 pub enum QosPolicy {
     Any,
     MinQoS(MqttQoS),
     ExactQoS(MqttQoS),
 }
 
-#[derive(Drop)]
+#[derive(Clone, Copy)]
 pub enum TopicAction {
     Allow,
     Block,
 }
 
-#[derive(Drop)]
+#[derive(Clone, Copy)]
 pub struct TopicRule {
     pub pattern: [u8; PATTERN_MAX],
     pub pattern_len: u8,

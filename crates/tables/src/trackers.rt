@@ -12,7 +12,7 @@ pub const TRACKERS: usize = 16;
 
 const LAST: usize = TRACKERS - 1;
 
-#[derive(Drop)]
+#[derive(Clone, Copy)]
 pub struct EwmaTracker {
     pub id: Id,
     pub mean_x256: u32,

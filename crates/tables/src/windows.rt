@@ -12,7 +12,7 @@ pub const STAMPS: usize = 16;
 
 const LAST: usize = WINDOWS - 1;
 
-#[derive(Drop)]
+#[derive(Clone, Copy)]
 pub struct ClientStormEntry {
     pub client_hash: u32,
     pub client_hash2: u32,

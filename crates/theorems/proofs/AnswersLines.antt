@@ -220,26 +220,26 @@ any-value-hex κs a = tt
 abbrev promised-held-new : Out held-new.ended
 promised-held-new κs a x e = (x.text ≡ a.0) × (x.at ≡ a.1.0)
 
-pub says-held-new : Says held-new.ended (λ M 𝓤. held-new.clauses 𝓤) promised-held-new
+pub says-held-new : Says held-new.ended (λ M 𝓤 𝓛. held-new.clauses 𝓛) promised-held-new
 says-held-new M 𝓤 𝓛 mem run κs a g x e = refl
 
 pub one-held-new : One held-new.ended promised-held-new
 one-held-new κs a x y e f p q = λ i. record { text = (p.0 ∙ sym q.0) i; at = (p.1 ∙ sym q.1) i }
 
-pub any-held-new : AsksNothing held-new.ended (λ M 𝓤. held-new.clauses 𝓤)
+pub any-held-new : AsksNothing held-new.ended (λ M 𝓤 𝓛. held-new.clauses 𝓛)
 any-held-new M 𝓤 𝓛 mem run κs a g = refl
 
 -- it takes a struct that holds a slice
 abbrev promised-held-line_here : Out held-line_here.ended
 promised-held-line_here κs a x e = x ≡ span_of a.0.text.now a.0.at
 
-pub says-held-line_here : Says held-line_here.ended (λ M 𝓤. held-line_here.clauses 𝓤) promised-held-line_here
+pub says-held-line_here : Says held-line_here.ended (λ M 𝓤 𝓛. held-line_here.clauses 𝓛) promised-held-line_here
 says-held-line_here M 𝓤 𝓛 mem run κs a g x e = refl
 
 pub one-held-line_here : One held-line_here.ended promised-held-line_here
 one-held-line_here κs a x y e f p q = p ∙ sym q
 
-pub any-held-line_here : AsksNothing held-line_here.ended (λ M 𝓤. held-line_here.clauses 𝓤)
+pub any-held-line_here : AsksNothing held-line_here.ended (λ M 𝓤 𝓛. held-line_here.clauses 𝓛)
 any-held-line_here M 𝓤 𝓛 mem run κs a g = refl
 
 pub one-put-put_seconds_line : OneLeft put-put_seconds_line.ended put-put_seconds_line-reads.Post (λ κs e. e.0.now)

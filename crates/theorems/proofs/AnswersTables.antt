@@ -287,13 +287,13 @@ any-windows-window_fine κs a = tt
 abbrev promised-buckets-try_consume : Out buckets-try_consume.ended
 promised-buckets-try_consume κs a x e = (x ≡ (spend a.0.now a.1.0).ok) × (e.0.now ≡ (spend a.0.now a.1.0).bucket)
 
-pub says-buckets-try_consume : Says buckets-try_consume.ended (λ M 𝓤. buckets-try_consume.clauses 𝓤) promised-buckets-try_consume
+pub says-buckets-try_consume : Says buckets-try_consume.ended (λ M 𝓤 𝓛. buckets-try_consume.clauses 𝓛) promised-buckets-try_consume
 says-buckets-try_consume M 𝓤 𝓛 mem run κs a g x e = refl
 
 pub one-buckets-try_consume : OneLeft buckets-try_consume.ended promised-buckets-try_consume (λ κs e. e.0.now)
 one-buckets-try_consume κs a x y e f p q = (p.0 ∙ sym q.0, p.1 ∙ sym q.1)
 
-pub any-buckets-try_consume : AsksNothing buckets-try_consume.ended (λ M 𝓤. buckets-try_consume.clauses 𝓤)
+pub any-buckets-try_consume : AsksNothing buckets-try_consume.ended (λ M 𝓤 𝓛. buckets-try_consume.clauses 𝓛)
 any-buckets-try_consume M 𝓤 𝓛 mem run κs a g = refl
 
 pub one-rules-qos_number : One rules-qos_number.ended rules-qos_number-reads.Post

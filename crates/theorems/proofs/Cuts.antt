@@ -1,5 +1,7 @@
 -- Runs cut in two: their times, rates, states and arrivals. Assumes nothing.
-use mathlib.Core.Bool.{true, false≢true}
+use mathlib.Core.Bool.{true, cond, false≢true}
+use lib.Dec.{ltb}
+use Rattle.tables.specs.Identity.{id_of}
 use mathlib.Core.List.{List, [], ◌∷◌, ◌++◌}
 use mathlib.Core.Path.{◌≡◌, refl, sym, ◌∙◌}
 use Prim.Native.Nat.{ℕ, ◌≤◌}
@@ -7,7 +9,7 @@ use native.Mathlib.Omega.{arith}
 use Rattle.tables.specs.declared.identity.Id.{Id}
 use Rattle.monitor.specs.declared.state.MqttMonitor.{MqttMonitor}
 use Rattle.monitor.specs.Runs.{Call}
-use Rattle.theorems.specs.Run.{Matcher, time, rate_of, reaches, InOrder, nothing, single, later, OneRate, Silent, done, next, arrived}
+use Rattle.theorems.specs.Run.{Matcher, time, rate_of, reaches, InOrder, nothing, single, later, OneRate, Silent, done, next, arrived, noted, used}
 
 -- a run that begins at s and ends at e, timestamps never going back
 abbrev pub Timed : ℕ → List Call → ℕ → Type 0
@@ -56,7 +58,7 @@ pub arrived_two : (matcher : Matcher) (m : MqttMonitor) (l : List Id) (pre post 
     → arrived matcher m l (pre ++ post) ≡ arrived matcher m (arrived matcher m l pre) post
 unfolding arrived
 arrived_two matcher m l [] post = refl
-arrived_two matcher m l (c ∷ pre) post = arrived_two matcher m _ pre post
+arrived_two matcher m l (c ∷ pre) post = arrived_two matcher m (cond (ltb 0 (rate_of matcher m c)) (noted (id_of (used c)) l) l) pre post
 
 -- one rate in both
 module _ {matcher : Matcher} {m : MqttMonitor} {x : Id} {R : ℕ} where

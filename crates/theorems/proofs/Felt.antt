@@ -83,7 +83,7 @@ module _ (matcher : Matcher) (f : Monitor) {m₀ : MqttMonitor} (agrees : (m : M
   on_all : {m : MqttMonitor} → Like m₀ m → (acts : List Act) → Like m₀ (after_acts (ours f) m acts)
   unfolding after_acts
   on_all k [] = k
-  on_all k (a ∷ acts) = on_all (go_on k a) acts
+  on_all {m = m} k (a ∷ acts) = on_all {m = after_act (ours f) m a} (go_on k a) acts
 
   one_call : {x : Id} {R : ℕ} {m : MqttMonitor} → Like m₀ m → (c : Call) {s u B : ℕ} → s ≤ time c → (reaches matcher m₀ x c ≡ true → rate_of matcher m₀ c ≡ R)
       → Inv x R m.rate_buckets s u B
@@ -103,7 +103,7 @@ module _ (matcher : Matcher) (f : Monitor) {m₀ : MqttMonitor} (agrees : (m : M
       let d = felt (ours f) x (f m c).monitor acts in
       let p = one (reaches matcher m₀ x c && passes f m c) in
       same_account (u + 1000000 * p + 1000000 * n) (u + 1000000 * (p + n)) (B + 1000000 * R * d) (B + 1000000 * R * d) (omega arith) refl
-      (run (go_on k (inspects c)) acts h.1 r (one_call k c h.0 q v))
+      (run {m = after_act (ours f) m (inspects c)} (go_on k (inspects c)) acts h.1 r (one_call k c h.0 q v))
   run {x} {R} {m} k (asks o ∷ acts) {u = u} {B} h r v =
       let n = passed_in (ours f) (reaches matcher m₀ x) (called m o).monitor acts in
       let d = felt (ours f) x (called m o).monitor acts in

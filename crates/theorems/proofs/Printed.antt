@@ -160,7 +160,7 @@ module _ (matcher : Matcher) where
     count k [] i = refl
     count {m} k (c ∷ cs) i =
         let b = both (eqb (number_of (answer matcher m c).outcome) 0) (every is_inspected (replies matcher (answer matcher m c).monitor cs)) i in
-        rw (agree k c b.0, count (on matcher k c) cs b.1)
+        rw (agree k c b.0, count {m = (answer matcher m c).monitor} (on matcher k c) cs b.1)
 
   -- the replies of a run from a fresh monitor, its messages in order, none refused
   module _ {m : MqttMonitor} (p : Prepared m) (cs : List Call) (o : InOrder cs) (i : every is_inspected (replies matcher m cs) ≡ true) where

@@ -54,9 +54,9 @@ pub seated_run : (matcher : Matcher) {m₀ m : MqttMonitor} → Like m₀ m → 
     → Seats (after matcher m cs).rate_buckets (arrived matcher m₀ l cs)
 unfolding arrived after_by
 seated_run matcher k [] s h = s
-seated_run matcher {m₀} k (c ∷ cs) {l} s h =
+seated_run matcher {m₀ = m₀} {m = m} k (c ∷ cs) {l = l} s h =
     let one = room_turn k.sound.buckets_sound.size s (le_trans (arrived-le matcher m₀ cs (arrives (rate_of matcher m₀ c) c l)) h) (turn matcher k c) in
-    seated_run matcher (on matcher k c) cs one.seats h
+    seated_run matcher {m = (Rattle.monitor.specs.Runs.answer matcher m c).monitor} (on matcher k c) cs one.seats h
 
 -- a run begins with no one seated
 pub seats_none : {m : MqttMonitor} → Prepared m → Seats m.rate_buckets []

@@ -97,7 +97,7 @@ pub record Room (T T' : List RateBucket) (l : List Id) : Type 0 where
   pub seats : Seats T' l
   pub still : Stays T T'
 
-pub room : {T T' : List RateBucket} {l : List Id} {y : Id} {rate t : ℕ} {ok : Bool}
+pub room : {T : List RateBucket} {l : List Id} {y : Id} {rate t : ℕ} {ok : Bool} {T' : List RateBucket}
     → length T ≡ 32 → OfTopic y → Seats T l → length (noted y l) ≤ 32 → Step T y rate t T' ok → Room T T' (noted y l)
 room {T} {l = l} {y = y} {t = t} n o s h (hit i q w) =
     let c : RateBucket = (spend (bucket_at T i) t).bucket in

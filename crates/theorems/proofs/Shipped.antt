@@ -29,7 +29,7 @@ passed_alike k x [] = refl
 passed_alike {p} {m} k x (c ∷ cs) =
     let a : shipped m c ≡ answer (matcher_of p) m c = as_chosen p m k.same.choice_same c in
     let v : passes shipped m c ≡ is_allowed (matcher_of p) m c = ap (λ (r : Inspected). r.result.allowed) a in
-    rw (v, a, rate_like (matcher_of p) k c, passed_alike (on (matcher_of p) k c) x cs)
+    rw (v, a, rate_like (matcher_of p) k c, passed_alike {m = (answer (matcher_of p) m c).monitor} (on (matcher_of p) k c) x cs)
 
 -- and so is the verdict after one
 pub verdict : (p : MqttMonitor) (cs : List Call) (z : Call) → passes shipped (after_by shipped p cs) z ≡ is_allowed (matcher_of p) (after (matcher_of p) p cs) z

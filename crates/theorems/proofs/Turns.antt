@@ -96,7 +96,7 @@ on matcher {m₀} {m} k c =
 pub on_run : (matcher : Matcher) {m₀ m : MqttMonitor} → Like m₀ m → (cs : List Call) → Like m₀ (after matcher m cs)
 unfolding after_by
 on_run matcher k [] = k
-on_run matcher k (c ∷ cs) = on_run matcher (on matcher k c) cs
+on_run matcher {m₀ = m₀} {m = m} k (c ∷ cs) = on_run matcher {m = (answer matcher m c).monitor} (on matcher k c) cs
 
 -- a fresh monitor has no live bucket
 pub free_place : (j : ℕ) → (bucket_at (replicate 32 empty_bucket) j).active ≡ false

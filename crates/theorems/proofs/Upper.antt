@@ -67,7 +67,7 @@ passed_under : (matcher : Matcher) {m₀ m : MqttMonitor} → Like m₀ m → (x
     → passed_in (ours (answer matcher)) (reaches matcher m₀ x) m (inspections cs) ≡ allowed_of matcher m x cs
 unfolding passed_in allowed_of reaches
 passed_under matcher k x [] = refl
-passed_under matcher k x (c ∷ cs) = rw (rate_like matcher k c, passed_under matcher (on matcher k c) x cs)
+passed_under matcher {m₀ = m₀} {m = m} k x (c ∷ cs) = rw (rate_like matcher k c, passed_under matcher {m = (answer matcher m c).monitor} (on matcher k c) x cs)
 
 pub upper : Upper
 upper matcher m p x R before between a z o r ra rz =

@@ -4,7 +4,7 @@ ghost use Rattle.topics.specs.Hashes.{times, fnv_step, fnv1a, djb_step, djb2, su
 
 // The two hashes by which CONNECT windows tell clients apart.
 #[repr(C)]
-#[derive(Drop)]
+#[derive(Clone, Copy)]
 pub struct ClientHashes {
     pub hash: u32,
     pub hash2: u32,

@@ -5,7 +5,7 @@ ghost use Rattle.topics.specs.Payload.{rotl, streams_start, streams_step, stream
 use crate::hashes::{fnv_step, wrapping_mul32};
 
 // The five streams, named as in the Rust.
-#[derive(Drop)]
+#[derive(Clone, Copy)]
 pub struct Streams {
     pub h1: u32,
     pub h3: u32,

@@ -120,7 +120,7 @@ module _ (hash : List ℕ) (long : length hash ≡ 32) (time : ℕ) where
 
   fold_bounded : {r : Raised} {ks : List ℕ} → Small ks → Bounded r → Bounded (foldl (raise hash time) r ks)
   fold_bounded none b = b
-  fold_bounded (more {k} h s) b = fold_bounded s (raise_bounded k h b)
+  fold_bounded {r = r} (more {k} h s) b = fold_bounded {r = raise hash time r k} s (raise_bounded k h b)
 
 -- the counters of a state, as their types have them
 pub record Counted (m : MqttMonitor) : Type 0 where

@@ -45,13 +45,13 @@ fn put_alerts(out: &mut [u8], at: usize, alerts: [SecurityAlert; ALERTS], count:
 }
 
 // A message's lines: its ordinal, whether it is allowed, how many alerts, and each of them.
-pub fn put_record(out: &mut [u8], at: usize, n: u64, res: MqttInspectResult) -> usize
-    ensures { Wrote out.old out.new at (record_text n res) result }
+pub fn put_record(out: &mut [u8], at: usize, n: u64, inspected: MqttInspectResult) -> usize
+    ensures { Wrote out.old out.new at (record_text n inspected) result }
 {
-    let alerts = res.alerts;
-    let count = res.alert_count;
+    let alerts = inspected.alerts;
+    let count = inspected.alert_count;
     let after_n = put_number_line(out, at, b"n=", n);
-    let after_allowed = put_flag_line(out, after_n, b"allowed=", res.allowed);
+    let after_allowed = put_flag_line(out, after_n, b"allowed=", inspected.allowed);
     let after_count = put_number_line(out, after_allowed, b"alerts=", count as u64);
     put_alerts(out, after_count, alerts, count as usize)
 }
@@ -105,11 +105,11 @@ fn alerts_len(alerts: [SecurityAlert; ALERTS], count: usize) -> usize
 }
 
 // The length of a message's lines.
-pub fn record_len(n: u64, res: MqttInspectResult) -> usize
-    ensures { (result ≡ length (record_text n res)) × (result ≤ 528) }
+pub fn record_len(n: u64, inspected: MqttInspectResult) -> usize
+    ensures { (result ≡ length (record_text n inspected)) × (result ≤ 528) }
 {
-    let alerts = res.alerts;
-    let count = res.alert_count;
+    let alerts = inspected.alerts;
+    let count = inspected.alert_count;
     let ordinal = number_line_len(b"n=", n);
     let allowed = flag_line_len(b"allowed=");
     let number = number_line_len(b"alerts=", count as u64);
@@ -129,24 +129,24 @@ pub fn closing_len(number: u32, line: u64, inspected: u64, total: u64) -> usize
 }
 
 // A record at the beginning of a lent buffer: 10 for an alert count over 4, 28 where the buffer is shorter than the record, each with nothing written.
-pub fn write_record(out: &mut [u8], n: u64, res: MqttInspectResult) -> Written
-    ensures answer { result ≡ record_written (length out.old) n res }
-    ensures buffer { out.new ≡ record_kept out.old n res }
+pub fn write_record(out: &mut [u8], n: u64, inspected: MqttInspectResult) -> Written
+    ensures answer { result ≡ record_written (length out.old) n inspected }
+    ensures buffer { out.new ≡ record_kept out.old n inspected }
 {
-    if 4 < res.alert_count {
+    if 4 < inspected.alert_count {
         return Written {
             number: 10,
             length: 0,
         };
     }
-    let need = record_len(n, res);
+    let need = record_len(n, inspected);
     if out.len() < need {
         return Written {
             number: 28,
             length: 0,
         };
     }
-    put_record(out, 0, n, res);
+    put_record(out, 0, n, inspected);
     Written {
         number: 0,
         length: need,

@@ -141,16 +141,22 @@ pub fn load(text: &[u8]) -> LoadedRules
 }
 
 // A message's lines at a place of the buffer, or only their length.
-fn pass_record(out: &mut [u8], at: usize, n: u64, res: MqttInspectResult, write: bool) -> usize
+fn pass_record(
+    out: &mut [u8],
+    at: usize,
+    n: u64,
+    inspected: MqttInspectResult,
+    write: bool,
+) -> usize
     requires small { at ≤ enough }
-    requires room { write ≡ true → at + length (record_text n res) ≤ length out.old }
-    ensures next { result ≡ at + length (record_text n res) }
-    ensures bytes { out.new ≡ put_if write out.old at (record_text n res) }
+    requires room { write ≡ true → at + length (record_text n inspected) ≤ length out.old }
+    ensures next { result ≡ at + length (record_text n inspected) }
+    ensures bytes { out.new ≡ put_if write out.old at (record_text n inspected) }
 {
     if !write {
-        return at + record_len(n, res);
+        return at + record_len(n, inspected);
     }
-    put_record(out, at, n, res)
+    put_record(out, at, n, inspected)
 }
 
 // The closing lines at a place of the buffer, or only their length; and how the trace ended.

@@ -17,7 +17,7 @@ use topics::matching::Matching;
 
 // How a trace ended, the place of its first message, the time of its last, and the state after all of them. Where the opening or a rule was refused there is no message, and the place is the
 // text's end.
-#[derive(Drop)]
+#[derive(Clone, Copy)]
 pub struct Seen {
     pub number: u32,
     pub line: u64,

@@ -10,7 +10,7 @@ use trace::seen::see_all;
 // How a run ended: 0 where it is whole, else the number that ended it, with the place of the packet at which it ended; how many messages were done, and how many bytes their records are; and the
 // monitor's two counts afterwards, the trace's messages among them.
 #[repr(C)]
-#[derive(Drop)]
+#[derive(Clone, Copy)]
 pub struct QueueRun {
     pub number: u32,
     pub place: usize,
@@ -22,14 +22,7 @@ pub struct QueueRun {
 
 // The packets of a run with one time and one verdict, after the messages of a trace, whose rules are matched as the Rust does. The records go to the beginning of the caller's buffer. A trace that
 // is refused gives its number, with place 0 and no message done.
-#[unsafe(no_mangle)]
-pub extern "C" fn hub_queue(
-    trace: &[u8],
-    at: u64,
-    clock_ok: bool,
-    packets: &[u8],
-    out: &mut [u8],
-) -> QueueRun
+pub fn hub_queue(trace: &[u8], at: u64, clock_ok: bool, packets: &[u8], out: &mut [u8]) -> QueueRun
     ensures answer { result ≡ task_end trace.now (wake_of packets.now at clock_ok (length out.old)) }
     ensures buffer { out.new ≡ task_kept trace.now (wake_of packets.now at clock_ok (length out.old)) out.old }
 {

@@ -30,10 +30,13 @@ pub missed_blocked : (z : ℤ) → SFits w32 z → of_z w32 z ≡ 11 → Again �
 unfolding missed_of
 missed_blocked z f e = rw (spelled z 11 f e)
 
-pub missed_failed : (z : ℤ) → (of_z w32 z ≡ 4 → ⊥) → (of_z w32 z ≡ 11 → ⊥) → Failed ≡ missed_of z
+missed_other : (z : ℤ) → (of_z w32 z ≡ 4 → ⊥) → (of_z w32 z ≡ 11 → ⊥) → Failed z ≡ missed_of z
 unfolding missed_of
-missed_failed (pos e) i b = rw (ne_eqb e 4 i, ne_eqb e 11 b)
-missed_failed (negsuc e) i b = refl
+missed_other (pos e) i b = rw (ne_eqb e 4 i, ne_eqb e 11 b)
+missed_other (negsuc e) i b = refl
+
+pub missed_failed : (z : ℤ) → SFits w32 z → (of_z w32 z ≡ 4 → ⊥) → (of_z w32 z ≡ 11 → ⊥) → Failed (to_z w32 (of_z w32 z)) ≡ missed_of z
+missed_failed z f i b = ap Failed (to_z-of_z w32 z f) ∙ missed_other z i b
 
 came_missed_of : (z error : ℤ) (n : ℕ) (t : Turn) → lt_z z (pos 0) ≡ true → t ≡ missed_of error → t ≡ turn_of z error n
 unfolding turn_of
@@ -55,13 +58,13 @@ pub came_moved : (z error : ℤ) (n k : ℕ) → SFits w64 z
     → lt_z (to_z w64 (of_z w64 z)) (pos 0) ≡ false → k ≡ clamp_len (to_z w64 (of_z w64 z)) n → Moved k ≡ turn_of z error n
 came_moved z error n k f e m = came_moved_of z error n k (rw (to_z-of_z w64 z f) at e) (rw (to_z-of_z w64 z f) at m)
 
-chosen_fits : (b : Bool) (n : ℕ) → Fits (cond b Again Failed) n
-chosen_fits true n = tt
-chosen_fits false n = tt
+chosen_fits : (b : Bool) (error : ℤ) (n : ℕ) → Fits (cond b Again (Failed error)) n
+chosen_fits true error n = tt
+chosen_fits false error n = tt
 
 missed_fits : (error : ℤ) (n : ℕ) → Fits (missed_of error) n
 unfolding missed_of
-missed_fits (pos e) n = chosen_fits (eqb e 4 || eqb e 11) n
+missed_fits (pos e) n = chosen_fits (eqb e 4 || eqb e 11) (pos e) n
 missed_fits (negsuc e) n = tt
 
 -- a call moves no more bytes than it was handed

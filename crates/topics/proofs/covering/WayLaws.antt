@@ -1,5 +1,6 @@
 -- What the functions of `covering` see at one place: one law for each way out of them and round their loops, with the branches' facts as premises. Assumes nothing.
-use Rattle.std.proofs.Common.{◌≡◌, ℕ, zero, suc, ◌+◌, ◌-◌, ◌<◌, ◌≤◌, min, Bool, true, false, cond, not, ◌&&◌, eqb, List, [], ◌∷◌, ◌++◌, length, get_or, take, drop, set, sym, refl, ap, ◌∙◌, add-one, arith, drop_of_length-le, length-take, take-take, eq-eqb, ne_eqb}
+use Rattle.std.proofs.Common.{◌≡◌, ℕ, zero, suc, ◌+◌, ◌-◌, ◌<◌, ◌≤◌, min, Bool, true, false, cond, not, ◌&&◌, eqb, List, [], ◌∷◌, ◌++◌, length, get_or, take, drop, set, sym, refl}
+use Rattle.std.proofs.Common.{ap, ◌∙◌, add-one, arith, drop_of_length-le, length-take, take-take, eq-eqb, ne_eqb}
 use mathlib.Core.Bool.{and-false}
 use lib.Seq.{sets, sets-eq, length-sets, take-append_seam}
 use Rattle.laws.specs.Lists.{none}

@@ -1,6 +1,7 @@
 -- The byte matcher at what is left of a topic and a pattern at an index each: one law for each way through the loop of `walk` and
 -- through `takes_none` and `takes_end`, with the branches' facts as premises; and through `matches_with`, which walks first. Assumes nothing.
-use Rattle.std.proofs.Common.{◌≡◌, ℕ, ◌+◌, ◌<◌, ◌≤◌, min, Bool, true, false, not, ◌&&◌, eqb, List, [], ◌∷◌, length, get_or, drop, sym, refl, ap, ◌∙◌, arith, drop_of_length-le, drop-drop, eq-eqb, ne_eqb}
+use Rattle.std.proofs.Common.{◌≡◌, ℕ, ◌+◌, ◌<◌, ◌≤◌, min, Bool, true, false, not, ◌&&◌, eqb, List, [], ◌∷◌, length, get_or, drop, sym, refl, ap, ◌∙◌, arith, drop_of_length-le}
+use Rattle.std.proofs.Common.{drop-drop, eq-eqb, ne_eqb}
 use mathlib.Core.Bool.{and_comm}
 use borrow.Author.Tests.{not-true, not-false}
 use Rattle.laws.proofs.Cases.{by}

@@ -1,0 +1,14 @@
+// A settings text, loaded and written back, in its own form or the other one (requests C-13 and C-18).
+ghost use Rattle.std.specs.Prelude.{◌≡◌, length};
+ghost use Rattle.settings.specs.Convert.{convert_end, convert_kept};
+
+use settings::convert::SettingsEnd;
+
+// Text in, text out, into the caller's buffer, in the form that is asked for, 0 for the text's own. Whatever refuses it, nothing is written.
+#[unsafe(no_mangle)]
+pub extern "C" fn hub_settings(text: &[u8], form: u32, out: &mut [u8]) -> SettingsEnd
+    ensures answer { result ≡ convert_end form (length out.old) text.now }
+    ensures buffer { out.new ≡ convert_kept form out.old text.now }
+{
+    boot::saving::hub_settings(text, form, out)
+}

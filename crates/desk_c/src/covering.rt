@@ -1,0 +1,21 @@
+// Two patterns, an earlier and a later: can the later one ever speak, and where (request C-20)? `standard` says which of the two matchers is asked.
+ghost use Rattle.std.specs.Prelude.{◌≡◌};
+ghost use Rattle.desk.specs.Covering.{pair_covers, pair_witness};
+
+use desk::covering::PairWitness;
+
+// Whether the earlier pattern matches every name that the later one matches: 1 yes, 0 no, else the number that refuses a pattern.
+#[unsafe(no_mangle)]
+pub extern "C" fn hub_covers(earlier: &[u8], later: &[u8], standard: bool) -> u32
+    ensures { result ≡ pair_covers standard earlier.now later.now }
+{
+    desk::covering::hub_covers(earlier, later, standard)
+}
+
+// A name that the later pattern matches and the earlier does not.
+#[unsafe(no_mangle)]
+pub extern "C" fn hub_witness(earlier: &[u8], later: &[u8], standard: bool) -> PairWitness
+    ensures { result ≡ pair_witness standard earlier.now later.now }
+{
+    desk::covering::hub_witness(earlier, later, standard)
+}

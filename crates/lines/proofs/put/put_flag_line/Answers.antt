@@ -1,0 +1,9 @@
+-- `lines::put::put_flag_line` meets its contract: three writes, one after the other. Assumes nothing.
+use Rattle.lines.specs.Line.{flag_line}
+use Rattle.lines.proofs.put.WroteLaws.{wrote_then}
+use Rattle.lines.proofs.put.put_flag_line.Goals as goal
+
+pub returns : goal.returns
+unfolding flag_line
+returns c =
+    wrote_then (wrote_then c.put_bytes-value.ensures c.put_flag-end.ensures) c.put_end.ensures

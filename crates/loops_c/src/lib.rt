@@ -1,0 +1,6 @@
+// Inspections in a loop that owns the state, with no text around them, as a firmware's main loop would have them. It is what `bin/measure loop`
+// measures against the Rust; nothing else uses it.
+// Each function calls that of `loops` of its name, and promises the same: a crate is a library or a static library.
+#![tactic(auto)]
+
+pub mod inspections;

@@ -1,0 +1,17 @@
+-- `gate::rule_for` meets its contract. The invariant: `i` is at most the count, and the place of the first rule that takes the topic stands `i` places before the rest
+-- from `i` on. The measure is what is left of the count. Assumes nothing.
+use mathlib.Core.Path.{◌≡◌}
+use Prim.Native.Nat.{◌≤◌, ◌-◌, ◌+◌}
+use borrow.Author.Rules.{rules}
+use lib.ListN.{take, drop}
+use Rattle.topics.specs.Matching.{matches_by}
+use Rattle.tables.specs.Scan.{find}
+use Rattle.tables.proofs.rules.RuleLaws.{passing}
+use Rattle.monitor.proofs.gate.rule_for.Given as goal
+
+abbrev pub invariant-loop-i : goal.invariant-loop-i
+invariant-loop-i l =
+    (l.i ≤ l.n) × (find (passing (matches_by l.matching l.topic)) (take l.count l.rules) ≡ l.i + find (passing (matches_by l.matching l.topic)) (drop l.i (take l.count l.rules)))
+
+abbrev pub decreases-loop-i : goal.decreases-loop-i
+decreases-loop-i l = l.n - l.i

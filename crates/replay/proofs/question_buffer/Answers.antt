@@ -1,0 +1,7 @@
+-- `question_buffer` meets its contract. Assumes nothing.
+use Rattle.std.proofs.Common.{ℕ, sym}
+use lib.ListN.{length-replicate}
+use Rattle.replay.proofs.question_buffer.Goals as goal
+
+pub returns : goal.returns
+returns c = sym (length-replicate {0} {A = ℕ} 524288 0)

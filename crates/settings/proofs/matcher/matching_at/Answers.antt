@@ -1,0 +1,9 @@
+-- `settings::matcher::matching_at` meets its contract: one test. Assumes nothing.
+use borrow.Author.Tests.{eq-eqb, ne_eqb}
+use Rattle.settings.proofs.matcher.matching_at.Goals as goal
+
+pub returns-then-k-eq0 : goal.returns-then-k-eq0
+returns-then-k-eq0 c = rw (eq-eqb _ _ c.if-k-eq0.true)
+
+pub returns : goal.returns
+returns c = rw (ne_eqb _ _ c.if-k-eq0.false)

@@ -1,0 +1,9 @@
+-- no more bytes were taken than there are; the measure is the turns that are left
+use Rattle.std.specs.Prelude.{length, ◌≤◌}
+use Rattle.streams.proofs.output.write_all.Given as goal
+
+abbrev pub invariant-loop-n : goal.invariant-loop-n
+invariant-loop-n g l = l.n ≤ length l.buf
+
+abbrev pub decreases-loop-n : goal.decreases-loop-n
+decreases-loop-n g l = l.left

@@ -1,0 +1,11 @@
+-- `buckets::find_oldest` meets its contract. The invariant: `time` is the least from `i` on, first at `at`, and `i` is a place. The measure is `i`. Assumes nothing.
+use Prim.Native.Nat.{◌<◌}
+use Rattle.tables.proofs.ScanLaws.{LeastFrom}
+use Rattle.tables.proofs.buckets.PlaceLaws.{time_of}
+use Rattle.tables.proofs.buckets.find_oldest.Given as goal
+
+abbrev pub invariant-loop-i : goal.invariant-loop-i
+invariant-loop-i l = LeastFrom time_of l.buckets l.at l.time l.i × (l.i < 32)
+
+abbrev pub decreases-loop-i : goal.decreases-loop-i
+decreases-loop-i l = l.i

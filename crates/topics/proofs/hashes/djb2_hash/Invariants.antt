@@ -1,0 +1,12 @@
+-- `hashes::djb2_hash` meets its contract. The invariant: from the hash so far, the bytes that are left give djb2 of all bytes; the measure: how many are
+-- left. Assumes nothing.
+use Rattle.std.proofs.Common.{◌≡◌, ◌-◌, ◌≤◌, length, drop}
+use mathlib.Core.List.{foldl}
+use Rattle.topics.specs.Hashes.{djb_step, djb2}
+use Rattle.topics.proofs.hashes.djb2_hash.Given as goal
+
+abbrev pub invariant-loop-i : goal.invariant-loop-i
+invariant-loop-i l = (l.i ≤ length l.bytes) × (foldl djb_step l.hash (drop l.i l.bytes) ≡ djb2 l.bytes)
+
+abbrev pub decreases-loop-i : goal.decreases-loop-i
+decreases-loop-i l = length l.bytes - l.i

@@ -1,0 +1,11 @@
+-- `trace::run::pass_closing` meets its contract: a length that is small, or a write that fits. Assumes nothing.
+use mathlib.Core.Bool.{true, false}
+use mathlib.Core.Path.{◌≡◌}
+use Rattle.lines.proofs.put.WroteLaws.{wrote_room}
+use Rattle.trace.proofs.run.pass_closing.Goals as goal
+
+pub returns-then-not-write : goal.returns-then-not-write
+returns-then-not-write c = let e : c.args.write ≡ false = c.if-not-write.true in record { next = rw c.closing_len.ensures.0; bytes = rw (e) }
+
+pub returns : goal.returns
+returns c = let e : c.args.write ≡ true = c.if-not-write.false in record { next = rw (wrote_room c.put_closing.ensures (c.requires.room e)); bytes = rw (e) c.put_closing.ensures.bytes }

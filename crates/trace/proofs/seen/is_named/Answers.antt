@@ -1,0 +1,68 @@
+use Prim.Native.Nat.{ℕ, ◌≤◌}
+use mathlib.Core.List.{List}
+use mathlib.Core.Path.{◌≡◌, refl, sym, ◌∙◌}
+use native.Mathlib.Omega.{arith}
+use lib.ListN.{length, take}
+use lib.Seq.{length-take-le}
+use Rattle.trace.specs.Groups.{topic_in}
+use Rattle.trace.specs.declared.groups.MessageLines.{MessageLines}
+use Rattle.trace.proofs.run.BufferLaws.{topic_part, payload_part}
+use Rattle.trace.proofs.run.RunLaws.{read_further}
+use Rattle.trace.proofs.seen.SeenLaws.{publish_stop, publish_here, publish_further, publish_end}
+use Rattle.trace.proofs.seen.is_named.Goals.{At-loop-p, Else-group-ne0}
+use Rattle.trace.proofs.seen.is_named.Goals as goal
+
+-- the text, and what was read of it
+abbrev text_at_Else_group_ne0 : (c : Else-group-ne0) → List ℕ
+text_at_Else_group_ne0 c = c.args.text.now
+
+-- the text, and what was read of it
+abbrev text : (c : At-loop-p) → List ℕ
+text c = c.args.text.now
+
+abbrev group_at_Else_group_ne0 : (c : Else-group-ne0) → MessageLines
+group_at_Else_group_ne0 c = c.read_message-group.result
+
+-- the message's topic is the first bytes of its buffer, and both buffers are as long as before
+name_has : (c : Else-group-ne0) → let buffer = c.read_message-group.new.topic in
+    (take (group_at_Else_group_ne0 c).msg.topic_len buffer ≡ topic_in (text_at_Else_group_ne0 c) (group_at_Else_group_ne0 c)) ×
+    ((group_at_Else_group_ne0 c).msg.topic_len ≤ length buffer) × (length buffer ≡ 128)
+name_has c =
+    topic_part _ _ _ c.read_message-group.ensures.value c.if-group-ne0.false c.loop-p.invariant.1 c.read_message-group.ensures.topic
+
+payload_long : (c : Else-group-ne0) → length c.read_message-group.new.payload ≡ 256
+payload_long c =
+    (payload_part _ _ _ c.read_message-group.ensures.value c.if-group-ne0.false c.loop-p.invariant.2 c.read_message-group.ensures.payload).2
+
+pub loop-p-init : goal.loop-p-init
+loop-p-init c = (refl, c.buffer_128-name.ensures, c.buffer_256-payload.ensures)
+
+pub returns-then-group-ne0 : goal.returns-then-group-ne0
+returns-then-group-ne0 c =
+    publish_stop _ _ c.loop-p-test.true c.read_message-group.ensures.value c.if-group-ne0.true ∙ c.loop-p.invariant.0
+
+pub slice_bounds-name-end : goal.slice_bounds-name-end
+slice_bounds-name-end c = (name_has (goal.at.slice_bounds-name-end c).Else-group-ne0).1
+
+pub slice_bounds-names-end : goal.slice_bounds-names-end
+slice_bounds-names-end c = sym (length-take-le _ _ (name_has (goal.at.slice_bounds-names-end c).Else-group-ne0).1)
+
+pub returns-then-names : goal.returns-then-names
+returns-then-names c =
+    publish_here _ _ c.loop-p-test.true c.read_message-group.ensures.value c.if-group-ne0.false (name_has (goal.at.returns-then-names c).Else-group-ne0).0 c.names.ensures c.if-names.true
+    ∙ c.loop-p.invariant.0
+
+pub loop-p-smaller : goal.loop-p-smaller
+loop-p-smaller c =
+    omega (arith, c.loop-p-test.true, read_further (text (goal.at.loop-p-smaller c).At-loop-p) c.loop-p.p c.read_message-group.ensures.value c.if-group-ne0.false)
+
+pub loop-p-preserved : goal.loop-p-preserved
+loop-p-preserved c = (
+  publish_further _ _ c.loop-p-test.true c.read_message-group.ensures.value c.if-group-ne0.false (name_has (goal.at.loop-p-preserved c).Else-group-ne0).0 c.names.ensures c.if-names.false
+      ∙ c.loop-p.invariant.0,
+  (name_has (goal.at.loop-p-preserved c).Else-group-ne0).2,
+  payload_long (goal.at.loop-p-preserved c).Else-group-ne0,
+)
+
+pub returns : goal.returns
+returns c = publish_end (text (goal.at.returns c).At-loop-p) c.args.topic.now c.loop-p-test.false ∙ c.loop-p.invariant.0
