@@ -13,11 +13,6 @@ ghost use Rattle.std.specs.Prelude.{◌≤◌, length};
 ghost use Rattle.corners.specs.Parts.{PartIn};
 
 use cut::upto;
-
-const STDIN_FILENO: i32 = 0;
-
-const STDOUT_FILENO: i32 = 1;
-
 use lines::value;
 use slices::bytes::find_byte;
 use topics::hashes::fnv1a_hash;
@@ -25,6 +20,10 @@ use topics::matching::{match_number, standard_matches, topic_matches};
 use topics::patterns::validate_mqtt_wildcard;
 use topics::shown::{is_readable, shown_byte};
 use topics::utf8::is_utf8;
+
+const STDIN_FILENO: i32 = 0;
+
+const STDOUT_FILENO: i32 = 1;
 
 // A quoted part of a line, and the place after its closing quote.
 #[derive(Clone, Copy)]

@@ -1,12 +1,11 @@
 // What the program is asked for, by the words behind its name: which time and which verdict the messages of a capture get, and whether they are inspected.
 ghost use Rattle.std.specs.Prelude.{◌≡◌};
-ghost use Rattle.io.specs.Counts.{IsPrefixLen};
 ghost use Rattle.hubpackets.specs.Asked.{asked_first, asked_unknown, asked_with};
 
 use lines::value::{Number, decimal};
 use slices::bytes::{same_bytes, starts_with};
-use std::env::FillError;
 use std::rt::Env;
+use streams::words::{is_there, word_at};
 
 // The time and the verdict, and whether the messages are inspected under settings; or that a word is not known.
 #[derive(Clone, Copy)]
@@ -81,24 +80,6 @@ pub fn with_word(asked: Asked, word: &[u8]) -> Asked
             inspect: asked.inspect,
         },
         Number::Bad => unknown(),
-    }
-}
-
-// A word, at the beginning of `word`, and its length: none where it is not there, or longer than `word`.
-fn word_at<R: Env>(rt: &R, k: usize, word: &mut [u8]) -> usize
-    ensures { IsPrefixLen result word.new }
-{
-    match rt.arg(k, word) {
-        Ok(n) => n,
-        Err(_) => 0,
-    }
-}
-
-// Whether there is such a word.
-fn is_there<R: Env>(rt: &R, k: usize) -> bool {
-    match rt.arg(k, &mut []) {
-        Err(FillError::NotPresent) => false,
-        _ => true,
     }
 }
 

@@ -17,6 +17,7 @@ use lines::put::put_number_line;
 use monitor::state::MqttMonitor;
 use packets::packet::read_packet;
 use packets_text::written::packet_lines;
+use streams::descriptor::Descriptor;
 use streams::turn::Done;
 use streams::{input, output, said};
 
@@ -26,8 +27,8 @@ const STDERR_FILENO: i32 = 2;
 // How long a capture may be.
 const CAPTURE_MAX: usize = 1048576;
 
-// Where the settings text is read from: descriptor 3, by its name, so that each of the two inputs has an end, and a failed read of either is seen here.
-const SETTINGS: &str = "/dev/fd/3";
+// Where the settings text is read from: a descriptor of its own, so that each of the two inputs has an end, and a failed read of either is seen here.
+const SETTINGS_FILENO: i32 = 3;
 
 // Room for the longest capture, and for one byte more, by which a longer one is known.
 fn capture_buffer() -> [u8; 1048577]
@@ -154,7 +155,11 @@ fn inspect(rt: &HostRuntime, monitor: MqttMonitor, capture: &mut [u8], at: u64, 
 #[inline(never)]
 fn inspect_under(rt: &HostRuntime, capture: &mut [u8], at: u64, ok: bool) {
     let mut text = text_buffer();
-    let read = input::read_named(rt, SETTINGS, &mut text);
+    let mut descriptor = Descriptor {
+        files: rt,
+        number: SETTINGS_FILENO,
+    };
+    let read = input::read_all(&mut descriptor, &mut text);
     if let Done::Failed(error) = read {
         said::fail(
             rt,

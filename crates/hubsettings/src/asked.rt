@@ -1,12 +1,11 @@
 // What the program is asked for, by the word behind its name: what a text sets, the text in a form (request C-18), its rules that can never speak, or two of its rules (request C-20).
 ghost use Rattle.std.specs.Prelude.{◌≡◌};
-ghost use Rattle.io.specs.Counts.{IsPrefixLen};
 ghost use Rattle.hubsettings.specs.Asked.{asked_pair, asked_numbers, asked_by};
 
 use lines::value::{Number, decimal};
 use slices::bytes::{find_byte, same_bytes, starts_with};
-use std::env::FillError;
 use std::rt::Env;
+use streams::words::{is_there, word_at};
 
 // What a text sets; the text in a form; its rules that can never speak; a later and an earlier rule, by their numbers; or a word that the program does not know.
 #[derive(Clone, Copy)]
@@ -65,24 +64,6 @@ pub fn by_word(word: &[u8]) -> Asked
         return Asked::Unknown;
     }
     by_numbers(&word[7..])
-}
-
-// A word, at the beginning of `word`, and its length: none where it is not there, or longer than `word`.
-fn word_at<R: Env>(rt: &R, k: usize, word: &mut [u8]) -> usize
-    ensures { IsPrefixLen result word.new }
-{
-    match rt.arg(k, word) {
-        Ok(n) => n,
-        Err(_) => 0,
-    }
-}
-
-// Whether there is such a word.
-fn is_there<R: Env>(rt: &R, k: usize) -> bool {
-    match rt.arg(k, &mut []) {
-        Err(FillError::NotPresent) => false,
-        _ => true,
-    }
 }
 
 // What the program is asked for: without a word, what a text sets.

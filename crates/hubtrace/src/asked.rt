@@ -1,11 +1,10 @@
 // What the program is asked for, by the words behind its name: the matcher of the rules (request C-15), and then whether it is to say where the limit stands.
 ghost use Rattle.std.specs.Prelude.{◌≡◌};
-ghost use Rattle.io.specs.Counts.{IsPrefixLen};
 ghost use Rattle.hubtrace.specs.Asked.{asked_by, asked_beside, asked_too};
 
 use slices::bytes::same_bytes;
-use std::env::FillError;
 use std::rt::Env;
+use streams::words::{is_there, word_at};
 use topics::matching::Matching;
 
 // A matcher; a matcher, and where the limit stands; or a word that the program does not know.
@@ -47,24 +46,6 @@ pub fn too(asked: Asked, word: &[u8]) -> Asked
         Asked::For(matching) => beside(matching, word),
         Asked::Standing(_) => Asked::Unknown,
         Asked::Unknown => Asked::Unknown,
-    }
-}
-
-// A word, at the beginning of `word`, and its length: none where it is not there, or longer than `word`.
-fn word_at<R: Env>(rt: &R, k: usize, word: &mut [u8]) -> usize
-    ensures { IsPrefixLen result word.new }
-{
-    match rt.arg(k, word) {
-        Ok(n) => n,
-        Err(_) => 0,
-    }
-}
-
-// Whether there is such a word.
-fn is_there<R: Env>(rt: &R, k: usize) -> bool {
-    match rt.arg(k, &mut []) {
-        Err(FillError::NotPresent) => false,
-        _ => true,
     }
 }
 

@@ -18,6 +18,9 @@ use streams::{input, output, said};
 use topics::matching::Matching;
 use trace::{run, standing};
 
+// Standard error.
+const STDERR_FILENO: i32 = 2;
+
 // Room for the longest trace, 65,536 bytes, and for one byte more, by which a longer one is known (27).
 fn text_buffer() -> [u8; 65537]
     ensures { 65537 ≡ length result }
@@ -59,9 +62,6 @@ fn stand(matching: Matching, read: Done, text: &[u8], out: &mut [u8]) -> usize
     let end = standing::write_standing(&text[..n], matching, out);
     end.length
 }
-
-// Standard error.
-const STDERR_FILENO: i32 = 2;
 
 // Writes the answer, and says so where that failed.
 fn print(rt: &HostRuntime, answer: &[u8]) {

@@ -4,9 +4,7 @@ ghost use Rattle.streams.specs.Turns.{DoneWithin, Fits};
 
 use crate::turn;
 use crate::turn::{Done, Turn};
-use std::fs::File;
 use std::io::Read;
-use std::rt::Files;
 use std::thread::yield_now;
 
 // Reads until the input ends or `buf` is full. A read that was interrupted, or that found a pipe empty, is made again.
@@ -35,16 +33,6 @@ pub fn read_all<R: Read>(from: &mut R, buf: &mut [u8]) -> Done
         }
     }
     Done::Bytes(n)
-}
-
-// Reads a file in the same way, by its name.
-pub fn read_named<F: Files>(rt: &F, name: &str, buf: &mut [u8]) -> Done
-    ensures { DoneWithin result (length buf.new) }
-{
-    match File::open(rt, name) {
-        Ok(mut file) => read_all(&mut file, buf),
-        Err(error) => Done::Failed(turn::errno(&error)),
-    }
 }
 
 fn read_once<R: Read>(from: &mut R, buf: &mut [u8]) -> Turn

@@ -2,7 +2,9 @@
 // which has it from the C library.
 #![tactic(auto)]
 
+pub mod descriptor;
 pub mod input;
 pub mod output;
 pub mod said;
 pub mod turn;
+pub mod words;
