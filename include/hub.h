@@ -1,9 +1,9 @@
-/* hub.h: the hub's message monitor for callers in C11 and C++11. Link target/staticlib/libhub.a, which `rt staticlib
- * hub` proves and writes; for hub_settings libboot.a, which `rt staticlib boot` writes; for hub_packet and
- * hub_packet_lines libjack.a, which `rt staticlib jack` writes; for hub_queue libwake.a, which `rt staticlib wake` writes;
- * and for hub_covers, hub_witness and the calls whose names begin with hub_standing, which are for a support desk and not
- * for the part, libdesk.a, which `rt staticlib desk` writes. Each is for x86-64 Linux (ELF, System V calls), as
- * position-independent code; besides the functions below it needs memcpy and memset. bin/header holds this file and the
+/* hub.h: the hub's message monitor for callers in C11 and C++11. Link target/staticlib/libhub.a, which `oracle/archive
+ * hub` proves and writes; for hub_settings libboot.a, which `oracle/archive boot` writes; for hub_packet and
+ * hub_packet_lines libjack.a, which `oracle/archive jack` writes; for hub_queue libwake.a, which `oracle/archive wake`
+ * writes; and for hub_covers, hub_witness and the calls whose names begin with hub_standing, which are for a support desk
+ * and not for the part, libdesk.a, which `oracle/archive desk` writes. Each is for x86-64 Linux (ELF, System V calls), as
+ * position-independent code; besides the functions below it needs NEEDS. bin/header holds this file and the
  * archives to each other.
  *
  * The caller's duties, for every function here:

@@ -155,11 +155,8 @@ fn inspect(rt: &HostRuntime, monitor: MqttMonitor, capture: &mut [u8], at: u64, 
 #[inline(never)]
 fn inspect_under(rt: &HostRuntime, capture: &mut [u8], at: u64, ok: bool) {
     let mut text = text_buffer();
-    let mut descriptor = Descriptor {
-        files: rt,
-        number: SETTINGS_FILENO,
-    };
-    let read = input::read_all(&mut descriptor, &mut text);
+    let mut settings = Descriptor::new(rt, SETTINGS_FILENO);
+    let read = input::read_all(&mut settings, &mut text);
     if let Done::Failed(error) = read {
         said::fail(
             rt,
