@@ -3,27 +3,26 @@
  * hub_packet_lines libjack.a, which `oracle/archive jack` writes; for hub_queue libwake.a, which `oracle/archive wake`
  * writes; and for hub_covers, hub_witness and the calls whose names begin with hub_standing, which are for a support desk
  * and not for the part, libdesk.a, which `oracle/archive desk` writes. Each is for x86-64 Linux (ELF, System V calls), as
- * position-independent code; besides the functions below it needs NEEDS. bin/header holds this file and the
- * archives to each other.
+ * position-independent code; besides the functions below it needs memcpy and memset. bin/header holds this file
+ * and the archives to each other.
  *
  * The caller's duties, for every function here:
  * - a pointer is not null, also where the length beside it is 0;
  * - a length is at most PTRDIFF_MAX and lies within the object that its pointer points into;
  * - the bytes that are read are initialised, and nothing changes them during the call; `out` need not be initialised;
  * - what a function writes to overlaps no other argument, and nothing else reads or writes it during the call;
- * - there is room on the stack: 96 KiB for a call whose name begins with hub_standing, 48 KiB for one whose name begins
- *   with hub_trace and for hub_queue, 16 KiB for hub_settings, 2 KiB for hub_covers and hub_witness, 1 KiB for any other
- *   (see below).
+ * - there is room on the stack: 96 KiB for a call whose name begins with hub_standing, 56 KiB for hub_queue, 48 KiB for
+ *   one whose name begins with hub_trace, 16 KiB for hub_settings, 2 KiB for hub_covers and hub_witness, 1 KiB for any
+ *   other (see below; until rattle-kit-13f 48 KiB were enough for hub_queue).
  *
  * Each call then returns, allocates nothing, keeps no pointer and has no state: equal arguments give equal answers, on
  * any thread. A bool is 0 or 1.
  *
- * Stack, in bytes below the caller, by measurement (rattle-kit-5b, x86-64; `bin/measure stack` measures again): those
- * of the standing reach 82,392, hub_queue 42,328, those of traces 30,258, hub_settings 14,658, hub_witness 1,096,
- * hub_covers 792, hub_packet_lines 688, hub_packet 336, every other call at most 256, less not being told apart. Whole,
- * cut and damaged texts and packets were tried; by the disassembly no function of libhub.a, libboot.a, libjack.a or
- * libwake.a calls itself, no frame grows with its input, and the frames add up to no more. libdesk.a was measured
- * alone. */
+ * Stack, in bytes below the caller, by measurement (rattle-kit-13f, x86-64; `bin/measure stack` measures again): those
+ * of the standing reach 85,976, hub_queue 53,016, those of traces 29,896, hub_settings 15,032, hub_witness 1,208,
+ * hub_covers 920, hub_packet_lines 808, hub_packet 472, every other call at most 256, less not being told apart. Whole,
+ * cut and damaged texts and packets were tried; by the disassembly no function calls itself, no frame grows with its
+ * input, and the frames of a call add up to at most 250 bytes more. */
 #ifndef HUB_H
 #define HUB_H
 
