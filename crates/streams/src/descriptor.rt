@@ -9,8 +9,10 @@ use std::io::{Error, Read, Result};
 use std::rt::Files;
 use std_io::io::last_error;
 
-// That there is no such file. No read of what a shell hands over fails for that reason.
-const ENOENT: i32 = 2;
+// That what is no folder stands where a folder must. Only names can give it, and a read has none.
+const ENOTDIR: i32 = 20;
+
+const BELOW_A_FILE: &str = "/dev/null/none";
 
 // How the read that comes next will end, where it is known by now.
 #[derive(Clone, Copy)]
@@ -38,15 +40,15 @@ impl<'a, F: Files> Descriptor<'a, F> {
     }
 
     // The kit's `io` reads until the buffer is full, or a read brings nothing; it says how many bytes came, and not why no more did: the input has ended, or that read failed and left its
-    // reason in errno. So errno gets another value first, that of a file with no name; and what is known then of the last read is kept, since no other may say it again.
+    // reason in errno. So errno gets another value first, that of a name below a file; and what is known then of the last read is kept, since no other may say it again.
     fn read_on(&mut self, buf: &mut [u8]) -> usize
         ensures { IsPrefixLen result buf.new }
     {
-        let _ = fs::metadata(self.files, "");
+        let _ = fs::metadata(self.files, BELOW_A_FILE);
         let n = io::read_full(self.number, buf);
         if n < buf.len() {
             let error = errno(&last_error());
-            self.next = if error == ENOENT {
+            self.next = if error == ENOTDIR {
                 Next::Ended
             } else {
                 Next::Failed(error)
@@ -58,6 +60,9 @@ impl<'a, F: Files> Descriptor<'a, F> {
 
 impl<'a, F: Files> Read for Descriptor<'a, F> {
     fn read(&mut self, buf: &mut [u8]) -> Result<usize> {
+        if buf.is_empty() {
+            return Ok(0);
+        }
         if let Next::Unknown = self.next {
             let n = self.read_on(buf);
             if 0 < n {
