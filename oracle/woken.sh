@@ -1,9 +1,9 @@
-# woken.sh, for the older kit, whose `rt try` left what it compiled: a run of packets at once and singly, with no trace before it (once bin/measure queue). `hub_queue` has a trace's reader in it, which the compiler builds
-# into the same function. So programs are made in a copy of the crates; each is given a settings text and packets, and writes the records. `woken` has one call
-# of `run_packets`; `singly` has the public calls for each message: `read_packet` for its packet, `message_at`, `inspect` by value and `write_record`. Each does
-# its work twice, the second time on no packets, so that it is not built into `main`. `beside` is `woken` with one inspection by value between the two: what the
-# compiler builds into what changes with who calls it, and the stack with that. What they call is proved; they themselves are not, and are compiled as rt
-# compiles a proved program, by what is behind `rt try`.
+# woken.sh, for the older kit, whose `rt try` left what it compiled: a run of packets at once and singly, with no trace before it (once bin/measure queue).
+# `hub_queue` has a trace's reader in it, which the compiler builds into the same function. So programs are made in a copy of the crates; each is given a
+# settings text and packets, and writes the records. `woken` has one call of `run_packets`; `singly` has the public calls for each message: `read_packet` for
+# its packet, `message_at`, `inspect` by value and `write_record`. Each does its work twice, the second time on no packets, so that it is not built into
+# `main`. `beside` is `woken` with one inspection by value between the two: what the compiler builds into what changes with who calls it, and the stack with
+# that. What they call is proved; they themselves are not, and are compiled as rt compiles a proved program, by what is behind `rt try`.
 
 # woken FOLDER INPUT: the programs in FOLDER, compiled and tried on an input of no packets.
 woken() {
