@@ -138,3 +138,11 @@ END
         set -- "$folder" "$input"
     done
 }
+
+# called FUNCTION PROGRAM INPUT: instructions inside a function of a program of oracle/woken.sh, which must write the records that `hub_queue` does.
+called() {
+    valgrind --quiet --tool=callgrind --collect-atstart=no --toggle-collect="$1" --callgrind-out-file="$room/count" "$room/woken/$2" \
+        <"$room/woken/runs/$3" >"$room/records"
+    cmp "$room/records" "$room/woken/runs/$3.out" >&2
+    sed -n 's/^totals: //p' "$room/count"
+}

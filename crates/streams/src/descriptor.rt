@@ -9,9 +9,7 @@ use std::io::{Error, Read, Result};
 use std::rt::Files;
 use std_io::io::last_error;
 
-// That what is no folder stands where a folder must. Only names can give it, and a read has none.
-const ENOTDIR: i32 = 20;
-
+// A name that nothing has: to ask for it leaves in errno what only a name can give, ENOTDIR, or ENOENT where there is no /dev/null.
 const BELOW_A_FILE: &str = "/dev/null/none";
 
 // How the read that comes next will end, where it is known by now.
@@ -40,15 +38,17 @@ impl<'a, F: Files> Descriptor<'a, F> {
     }
 
     // The kit's `io` reads until the buffer is full, or a read brings nothing; it says how many bytes came, and not why no more did: the input has ended, or that read failed and left its
-    // reason in errno. So errno gets another value first, that of a name below a file; and what is known then of the last read is kept, since no other may say it again.
+    // reason in errno. So errno gets a value before that no read leaves, and the input has ended where it is still there. What is known then of the last read is kept, since no other may say it
+    // again.
     fn read_on(&mut self, buf: &mut [u8]) -> usize
         ensures { IsPrefixLen result buf.new }
     {
         let _ = fs::metadata(self.files, BELOW_A_FILE);
+        let before = errno(&last_error());
         let n = io::read_full(self.number, buf);
         if n < buf.len() {
             let error = errno(&last_error());
-            self.next = if error == ENOTDIR {
+            self.next = if error == before {
                 Next::Ended
             } else {
                 Next::Failed(error)
