@@ -8,7 +8,7 @@ ghost use Rattle.tables.specs.Rules.{rule_of, overwritten, not_taken, rule_plan}
 
 use slices::bytes::same_bytes;
 use topics::matching::{Matching, matches_by};
-use topics::patterns::{PATTERN_MAX, pattern_refusal};
+use topics::patterns::{PATTERN_MAX, check_pattern};
 
 // How many rules a monitor holds.
 pub const RULES: usize = 32;
@@ -182,7 +182,7 @@ pub fn rule_fine(rule: TopicRule) -> bool
         return false;
     }
     let pattern = rule.pattern;
-    pattern_refusal(&pattern[..n]) == 0
+    check_pattern(&pattern[..n]).is_ok()
 }
 
 // A live rule takes a topic, by the matcher that was chosen.
@@ -320,9 +320,8 @@ pub fn plan_rule(
 ) -> RulePlan
     ensures { result ≡ rule_plan rules rule_count pattern.now action qos_policy max_rate_per_sec }
 {
-    let number = pattern_refusal(pattern);
-    if number != 0 {
-        return not_taken(number, rule_count);
+    if let Err(refusal) = check_pattern(pattern) {
+        return not_taken(refusal.number(), rule_count);
     }
     let count = rule_count as usize;
     let at = equal_rule(rules, count, pattern);
