@@ -33,6 +33,17 @@ pub fn fresh(matching: Matching, default_action: TopicAction) -> MqttMonitor
     }
 }
 
+impl MqttMonitor {
+    ghost use Rattle.monitor.specs.Calls.{fresh};
+
+    /// A monitor without rules, all places free, CONNECT threshold 5 in 60 seconds, ids from 1.
+    pub fn fresh(matching: Matching, default_action: TopicAction) -> Self
+        ensures { result ≡ fresh matching default_action }
+    {
+        fresh(matching, default_action)
+    }
+}
+
 // A topic that no rule takes is allowed. Its rules are matched as the Rust does; so are those of the next.
 pub fn new() -> MqttMonitor
     ensures { result ≡ fresh Matching.Port TopicAction.Allow }

@@ -6,7 +6,7 @@ ghost use Rattle.monitor.specs.Inspect.{no_result, refused_with, inspect_with};
 use crate::alerts::{MqttInspectResult, count_on, no_alerts};
 use crate::gate::Stage;
 use crate::message::{MqttMessage, PAYLOAD_MAX, TOPIC_MAX};
-use crate::plan::plan_for;
+use crate::plan::{Plan, plan_for};
 use crate::state::{MqttMonitor, Outcome, well_formed};
 use tables::buckets::BUCKETS;
 use tables::trackers::TRACKERS;
@@ -48,6 +48,29 @@ fn refused(m: MqttMonitor, number: u32) -> Inspected
         stage: Stage::Early,
         result: no_result(),
         monitor: m,
+    }
+}
+
+impl MqttMonitor {
+    ghost use Rattle.monitor.specs.Inspect.{applied};
+
+    /// Stores what a plan decided, and counts its message: the only place that changes the tables of an inspection.
+    #[tactic(auto, unfolding(crate::specs::Inspect::applied))]
+    pub fn apply(&mut self, plan: &Plan)
+        ensures { self.new ≡ applied self.old plan.now }
+    {
+        if plan.seen.at < WINDOWS {
+            self.connect_windows[plan.seen.at] = plan.seen.entry;
+        }
+        if plan.spent.at < BUCKETS {
+            self.rate_buckets[plan.spent.at] = plan.spent.bucket;
+        }
+        if plan.fed.at < TRACKERS {
+            self.ewma_trackers[plan.fed.at] = plan.fed.tracker;
+        }
+        self.next_alert_id = plan.raised.next_id;
+        self.total_inspected = count_on(self.total_inspected);
+        self.total_alerts = plan.raised.total;
     }
 }
 

@@ -231,6 +231,32 @@ pub fn plan_light(gate: Gate, msg: MqttMessage, payload: &[u8], next_id: u64, to
     )
 }
 
+impl MqttMonitor {
+    ghost use Rattle.monitor.specs.Plan.{gate_in, plan_of};
+    ghost use Rattle.monitor.specs.State.{matcher_of};
+
+    /// The gate of a message with its used topic, by the rules and the matcher of this monitor.
+    pub fn gate_for(&self, msg: &MqttMessage, topic: &[u8]) -> Gate
+        ensures { result ≡ gate_in (matcher_of self.now) self.now msg.now topic.now }
+    {
+        gate_for(
+            self.rules,
+            self.rule_count,
+            self.default_action,
+            self.matching,
+            *msg,
+            topic,
+        )
+    }
+
+    /// The plan of a message with its used topic and payload: nothing is stored, `apply` does that.
+    pub fn plan_for(&self, msg: &MqttMessage, topic: &[u8], payload: &[u8]) -> Plan
+        ensures { result ≡ plan_of (matcher_of self.now) self.now msg.now topic.now payload.now }
+    {
+        plan_for(*self, *msg, topic, payload)
+    }
+}
+
 // The plan of a message with its used topic and payload, under a state; `inspection::inspect` asks for it and does the stores.
 pub fn plan_for(m: MqttMonitor, msg: MqttMessage, topic: &[u8], payload: &[u8]) -> Plan
     ensures { result ≡ plan_of (matcher_of m) m msg topic.now payload.now }

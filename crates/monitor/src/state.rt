@@ -150,6 +150,17 @@ pub fn well_formed(m: MqttMonitor) -> bool
     trackers_fine(trackers)
 }
 
+impl MqttMonitor {
+    ghost use Rattle.monitor.specs.State.{well_formed};
+
+    /// The test behind number 10, with which every call but the counters begins (document 01, "Numbers handed back").
+    pub fn is_well_formed(&self) -> bool
+        ensures { result ≡ well_formed self.now }
+    {
+        well_formed(*self)
+    }
+}
+
 // A table without rules.
 pub fn free_rules() -> [TopicRule; RULES]
     ensures { result ≡ replicate 32 empty_rule }

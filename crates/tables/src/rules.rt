@@ -2,6 +2,7 @@
 ghost use Rattle.std.specs.Prelude.{◌&&◌, ◌++◌, ◌≡◌, ◌-◌, ◌≤◌, min, ltb, length, take, replicate};
 ghost use Rattle.slices.specs.Bytes.{same};
 ghost use Rattle.topics.specs.Matching.{matches_by, port_matches};
+ghost use Rattle.topics.specs.Patterns.{pattern_refusal};
 ghost use Rattle.tables.specs.Numbers.{qos_number, qos_at, action_number, action_at, policy_number, policy_at};
 ghost use Rattle.tables.specs.Rules.{qos_ok, pattern_of, rule_fine, equal_rule, shadow_count, empty_rule};
 ghost use Rattle.tables.specs.Rules.{rule_of, overwritten, not_taken, rule_plan};
@@ -170,6 +171,16 @@ pub fn places(count: usize) -> usize
     RULES
 }
 
+// The number that refuses a pattern, 0 for none.
+fn pattern_refusal(pattern: &[u8]) -> u32
+    ensures { result ≡ pattern_refusal pattern.now }
+{
+    match check_pattern(pattern) {
+        Ok(()) => 0,
+        Err(refusal) => refusal.number(),
+    }
+}
+
 // Whether `add_rule` could have left such a rule: number 10 refuses a state with any other.
 pub fn rule_fine(rule: TopicRule) -> bool
     ensures { result ≡ rule_fine rule }
@@ -182,7 +193,7 @@ pub fn rule_fine(rule: TopicRule) -> bool
         return false;
     }
     let pattern = rule.pattern;
-    check_pattern(&pattern[..n]).is_ok()
+    pattern_refusal(&pattern[..n]) == 0
 }
 
 // A live rule takes a topic, by the matcher that was chosen.
@@ -320,8 +331,9 @@ pub fn plan_rule(
 ) -> RulePlan
     ensures { result ≡ rule_plan rules rule_count pattern.now action qos_policy max_rate_per_sec }
 {
-    if let Err(refusal) = check_pattern(pattern) {
-        return not_taken(refusal.number(), rule_count);
+    let number = pattern_refusal(pattern);
+    if number != 0 {
+        return not_taken(number, rule_count);
     }
     let count = rule_count as usize;
     let at = equal_rule(rules, count, pattern);
