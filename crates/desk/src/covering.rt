@@ -1,9 +1,11 @@
 // Two patterns, an earlier and a later: can the later one ever speak, and where (request C-20)? `standard` says which of the two matchers is asked.
 ghost use Rattle.std.specs.Prelude.{◌≡◌};
 ghost use Rattle.desk.specs.Covering.{pair_refusal, pair_covers, pair_witness};
+ghost use Rattle.laws.specs.Refusals.{refusal};
+ghost use Rattle.topics.specs.Patterns.{pattern_number};
 
 use topics::covering::{covers, find_witness};
-use topics::patterns::pattern_refusal;
+use topics::patterns::{PatternRefusal, check_pattern};
 
 // A name that only the later pattern matches, zeros after it. The length is 0 where there is none, and where `number` refuses a pattern.
 #[repr(C)]
@@ -14,24 +16,22 @@ pub struct PairWitness {
     pub name: [u8; 128],
 }
 
-// The number that refuses one of two patterns.
-fn pair_refusal(earlier: &[u8], later: &[u8]) -> u32
-    ensures { result ≡ pair_refusal earlier.now later.now }
+// Whether both patterns are taken; the earlier one is asked first.
+#[tactic(auto, unfolding(crate::specs::Covering::pair_refusal))]
+fn check_pair(earlier: &[u8], later: &[u8]) -> Result<(), PatternRefusal>
+    ensures { refusal pattern_number result ≡ pair_refusal earlier.now later.now }
 {
-    let number = pattern_refusal(earlier);
-    if number != 0 {
-        return number;
-    }
-    pattern_refusal(later)
+    check_pattern(earlier)?;
+    check_pattern(later)
 }
 
 // Whether the earlier pattern matches every name that the later one matches: 1 yes, 0 no, else the number that refuses a pattern.
+#[tactic(auto, unfolding(crate::specs::Covering::pair_covers))]
 pub fn hub_covers(earlier: &[u8], later: &[u8], standard: bool) -> u32
     ensures { result ≡ pair_covers standard earlier.now later.now }
 {
-    let number = pair_refusal(earlier, later);
-    if number != 0 {
-        return number;
+    if let Err(refusal) = check_pair(earlier, later) {
+        return refusal.number();
     }
     if covers(earlier, later, standard, standard) {
         return 1;
@@ -40,22 +40,21 @@ pub fn hub_covers(earlier: &[u8], later: &[u8], standard: bool) -> u32
 }
 
 // A name that the later pattern matches and the earlier does not.
+#[tactic(auto, unfolding(crate::specs::Covering::pair_witness))]
 pub fn hub_witness(earlier: &[u8], later: &[u8], standard: bool) -> PairWitness
     ensures { result ≡ pair_witness standard earlier.now later.now }
 {
-    let number = pair_refusal(earlier, later);
-    if number != 0 {
+    if let Err(refusal) = check_pair(earlier, later) {
         return PairWitness {
-            number,
+            number: refusal.number(),
             length: 0,
             name: [0; 128],
         };
     }
     let found = find_witness(earlier, later, standard, standard);
-    let name = found.name;
     PairWitness {
-        number,
+        number: 0,
         length: found.len,
-        name,
+        name: found.name,
     }
 }

@@ -9,7 +9,7 @@ use topics::matching::{match_number, standard_matches, topic_matches};
 use topics::names::{
     contains_invalid_publish_char, is_broad_wildcard_subscribe, starts_with_dollar,
 };
-use topics::patterns::{pattern_refusal, validate_mqtt_wildcard};
+use topics::patterns::{check_pattern, validate_mqtt_wildcard};
 use topics::utf8::is_utf8;
 
 // Whether bytes are UTF-8 (MQTT 3.1.1 section 1.5.3); a zero byte, which is U+0000, passes.
@@ -30,7 +30,10 @@ pub fn hub_validate_mqtt_wildcard(pattern: &[u8]) -> bool
 pub fn hub_pattern_refusal(pattern: &[u8]) -> u32
     ensures { result ≡ pattern_refusal pattern.now }
 {
-    pattern_refusal(pattern)
+    match check_pattern(pattern) {
+        Ok(()) => 0,
+        Err(refusal) => refusal.number(),
+    }
 }
 
 // The port's matcher, as the Rust answers on any pattern.

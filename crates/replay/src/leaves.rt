@@ -19,6 +19,14 @@ fn put_client(out: &mut [u8], client_id: &[u8]) -> usize {
     put_hash(out, blank, both.hash2)
 }
 
+// The number that refuses a pattern, 0 for none.
+fn refusal_of(pattern: &[u8]) -> u32 {
+    match patterns::check_pattern(pattern) {
+        Ok(()) => 0,
+        Err(refusal) => refusal.number(),
+    }
+}
+
 // What the port says of some bytes, as recorded, to the beginning of `out`; its length, or 0 for a kind that there is not.
 fn put_answer(kind: u8, bytes: &[u8], out: &mut [u8]) -> usize {
     match kind {
@@ -28,7 +36,7 @@ fn put_answer(kind: u8, bytes: &[u8], out: &mut [u8]) -> usize {
         b'c' => put_client(out, bytes),
         b'p' => put::put_hex(out, 0, &payload::compute_payload_hash(bytes)),
         b'v' => put::put_flag(out, 0, patterns::validate_mqtt_wildcard(bytes)),
-        b'r' => put::put_decimal(out, 0, patterns::pattern_refusal(bytes) as u64),
+        b'r' => put::put_decimal(out, 0, u64::from(refusal_of(bytes))),
         b'b' => put::put_flag(out, 0, names::is_broad_wildcard_subscribe(bytes)),
         b'x' => put::put_flag(out, 0, names::contains_invalid_publish_char(bytes)),
         b'$' => put::put_flag(out, 0, names::starts_with_dollar(bytes)),

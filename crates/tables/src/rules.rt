@@ -10,7 +10,7 @@ ghost use Rattle.tables.specs.Scan.{placed};
 use crate::identity::padded;
 use slices::bytes::same_bytes;
 use topics::matching::{Matching, matches_by};
-use topics::patterns::{PATTERN_MAX, pattern_refusal};
+use topics::patterns::{PATTERN_MAX, PatternRefusal, check_pattern};
 
 // How many rules a monitor holds.
 pub const RULES: usize = 32;
@@ -176,7 +176,7 @@ impl TopicRule {
     {
         self.active
             && usize::from(self.pattern_len) <= PATTERN_MAX
-            && pattern_refusal(self.pattern()) == 0
+            && check_pattern(self.pattern()).is_ok()
     }
 
     // A live rule has just this pattern.
@@ -204,7 +204,7 @@ pub fn equal_rule(rules: &[TopicRule; RULES], count: usize, pattern: &[u8]) -> O
         .position(|rule| rule.has(pattern))
 }
 
-// Why a rule is refused: the table is full, or the pattern is none.
+// Why a rule is refused: 32 are held, or its pattern is not taken.
 #[derive(Clone, Copy, Debug, PartialEq, Eq)]
 pub enum RuleRefusal {
     TableFull = 6,
@@ -213,13 +213,28 @@ pub enum RuleRefusal {
 }
 
 impl RuleRefusal {
-    ghost use Rattle.tables.specs.Rules.{number_of};
+    ghost use Rattle.tables.specs.Rules.{rule_number};
 
     // The number that a person is told (docs/NUMBERS.md).
     pub fn number(self) -> u32
-        ensures { result ≡ number_of self }
+        ensures { result ≡ rule_number self }
     {
         self as u32
+    }
+}
+
+impl From<PatternRefusal> for RuleRefusal {
+    ghost use Rattle.std.specs.Prelude.{◌≡◌};
+    ghost use Rattle.tables.specs.Rules.{rule_number};
+    ghost use Rattle.topics.specs.Patterns.{pattern_number};
+
+    ghost from_gives = { λ pattern rule. rule_number rule ≡ pattern_number pattern };
+
+    fn from(refusal: PatternRefusal) -> RuleRefusal {
+        match refusal {
+            PatternRefusal::BadPattern => RuleRefusal::BadPattern,
+            PatternRefusal::NotUtf8 => RuleRefusal::NotUtf8,
+        }
     }
 }
 

@@ -1,5 +1,6 @@
 -- One answer for every public function of `topics`, and nothing asked of its caller (specs/One.antt). Assumes nothing.
 use mathlib.Core.Path.{sym, ◌∙◌}
+use Rattle.topics.proofs.patterns.PatternLaws.{check_once}
 use Rattle.topics.specs.contracts.hashes.wrapping_mul32 as hashes-wrapping_mul32
 use Rattle.topics.proofs.hashes.wrapping_mul32.Reads as hashes-wrapping_mul32-reads
 use Rattle.topics.specs.contracts.hashes.fnv_step as hashes-fnv_step
@@ -26,8 +27,10 @@ use Rattle.topics.specs.contracts.names.contains_invalid_publish_char as names-c
 use Rattle.topics.proofs.names.contains_invalid_publish_char.Reads as names-contains_invalid_publish_char-reads
 use Rattle.topics.specs.contracts.patterns.validate_mqtt_wildcard as patterns-validate_mqtt_wildcard
 use Rattle.topics.proofs.patterns.validate_mqtt_wildcard.Reads as patterns-validate_mqtt_wildcard-reads
-use Rattle.topics.specs.contracts.patterns.pattern_refusal as patterns-pattern_refusal
-use Rattle.topics.proofs.patterns.pattern_refusal.Reads as patterns-pattern_refusal-reads
+use Rattle.topics.specs.contracts.patterns.PatternRefusal.number as patterns-PatternRefusal-number
+use Rattle.topics.proofs.patterns.PatternRefusal.number.Reads as patterns-PatternRefusal-number-reads
+use Rattle.topics.specs.contracts.patterns.check_pattern as patterns-check_pattern
+use Rattle.topics.proofs.patterns.check_pattern.Reads as patterns-check_pattern-reads
 use Rattle.topics.specs.contracts.payload.compute_payload_hash as payload-compute_payload_hash
 use Rattle.topics.proofs.payload.compute_payload_hash.Reads as payload-compute_payload_hash-reads
 use Rattle.topics.specs.contracts.matching.matches_with as matching-matches_with
@@ -126,11 +129,17 @@ one-patterns-validate_mqtt_wildcard κs a x y e f p q = p ∙ sym q
 pub any-patterns-validate_mqtt_wildcard : Any patterns-validate_mqtt_wildcard.ended patterns-validate_mqtt_wildcard-reads.Asked
 any-patterns-validate_mqtt_wildcard κs a = tt
 
-pub one-patterns-pattern_refusal : One patterns-pattern_refusal.ended patterns-pattern_refusal-reads.Post
-one-patterns-pattern_refusal κs a x y e f p q = p ∙ sym q
+pub one-patterns-PatternRefusal-number : One patterns-PatternRefusal-number.ended patterns-PatternRefusal-number-reads.Post
+one-patterns-PatternRefusal-number κs a x y e f p q = p ∙ sym q
 
-pub any-patterns-pattern_refusal : Any patterns-pattern_refusal.ended patterns-pattern_refusal-reads.Asked
-any-patterns-pattern_refusal κs a = tt
+pub any-patterns-PatternRefusal-number : Any patterns-PatternRefusal-number.ended patterns-PatternRefusal-number-reads.Asked
+any-patterns-PatternRefusal-number κs a = tt
+
+pub one-patterns-check_pattern : One patterns-check_pattern.ended patterns-check_pattern-reads.Post
+one-patterns-check_pattern κs a x y e f p q = check_once _ _ (p ∙ sym q)
+
+pub any-patterns-check_pattern : Any patterns-check_pattern.ended patterns-check_pattern-reads.Asked
+any-patterns-check_pattern κs a = tt
 
 pub one-payload-compute_payload_hash : One payload-compute_payload_hash.ended payload-compute_payload_hash-reads.Post
 one-payload-compute_payload_hash κs a x y e f p q = p ∙ sym q

@@ -6,6 +6,8 @@ use Rattle.laws.specs.Lists.{none}
 use Rattle.slices.specs.Bytes.{has, count_of}
 use Rattle.topics.specs.Levels.{levels, is_hash, is_plus}
 use Rattle.topics.specs.Utf8.{is_utf8}
+use Rattle.topics.specs.declared.patterns.PatternRefusal.{PatternRefusal}
+use Rattle.topics.specs.declared.patterns.PatternRefusal.TheVariants.{BadPattern, NotUtf8}
 
 -- a level with no wildcard in it
 abbrev pub is_plain : List ℕ → Bool
@@ -29,3 +31,8 @@ pattern_refusal p =
     (cond (nat_lt 3 (count_of (code "+") p)) 9
     (cond (not (well_placed (levels p))) 9
     0))))
+
+-- the number of a refusal
+abbrev pub pattern_number : PatternRefusal → ℕ
+pattern_number BadPattern = 9
+pattern_number NotUtf8 = 36

@@ -4,7 +4,7 @@ ghost use Rattle.std.specs.Prelude.{◌≡◌, ◌+◌, ◌-◌, ◌≤◌, ◌&
 ghost use Rattle.topics.specs.Matching.{starts_wild, dollar_apart, takes_none, takes_end, match_bytes, matches_with, is_standard, matches_by, port_matches, standard_matches, match_number};
 
 use crate::names::starts_with_dollar;
-use crate::patterns::pattern_refusal;
+use crate::patterns::check_pattern;
 use slices::bytes::find_byte;
 
 // Which of the two a monitor takes for its rules: as the Rust answers, or as MQTT 3.1.1 section 4.7 does.
@@ -163,11 +163,12 @@ pub fn topic_matches(topic: &[u8], pattern: &[u8]) -> bool
     matches_with(topic, pattern, false, false)
 }
 
+#[tactic(auto, unfolding(crate::specs::Matching::standard_matches))]
 // The standard: MQTT 3.1.1 section 4.7, for a pattern that `add_rule` takes and a name of at least 1 byte.
 pub fn standard_matches(name: &[u8], pattern: &[u8]) -> StandardMatch
     ensures { result ≡ standard_matches name.now pattern.now }
 {
-    if pattern_refusal(pattern) != 0 {
+    if check_pattern(pattern).is_err() {
         return StandardMatch::OutsideDomain;
     }
     if name.len() == 0 {

@@ -1,7 +1,8 @@
 // Which patterns a rule may have (document 01, `add_rule`; 000 `validate_mqtt_wildcard` and the tests of `add_rule`).
 ghost use Rattle.std.specs.Prelude.{◌≡◌, drop};
 ghost use Rattle.topics.specs.Levels.{level_ends};
-ghost use Rattle.topics.specs.Patterns.{valid_wildcards, pattern_refusal};
+ghost use Rattle.laws.specs.Refusals.{refusal};
+ghost use Rattle.topics.specs.Patterns.{valid_wildcards, pattern_refusal, pattern_number};
 
 use crate::utf8::is_utf8;
 use slices::bytes::{count_byte, has_byte};
@@ -52,27 +53,48 @@ pub const PATTERN_MAX: usize = 64;
 
 const PLUS_MAX: usize = 3;
 
-// 0, or the number that refuses the pattern: what `add_rule`, number 10 and the standard matcher's domain go by.
-pub fn pattern_refusal(pattern: &[u8]) -> u32
-    ensures { result ≡ pattern_refusal pattern.now }
+/// Why a pattern is not taken.
+#[derive(Clone, Copy, Debug, PartialEq, Eq)]
+pub enum PatternRefusal {
+    /// Not 1 to 64 bytes, a zero byte, more than three `+`, or a wildcard out of place.
+    BadPattern = 9,
+    /// Not UTF-8 (request C-16).
+    NotUtf8 = 36,
+}
+
+impl PatternRefusal {
+    ghost use Rattle.topics.specs.Patterns.{pattern_number};
+
+    /// The number that a person is told (docs/NUMBERS.md).
+    pub fn number(self) -> u32
+        ensures { result ≡ pattern_number self }
+    {
+        self as u32
+    }
+}
+
+#[tactic(auto, unfolding(crate::specs::Patterns::pattern_refusal))]
+/// Whether a pattern is one that a rule may have: what `add_rule`, number 10 and the standard matcher's domain go by.
+pub fn check_pattern(pattern: &[u8]) -> Result<(), PatternRefusal>
+    ensures { refusal pattern_number result ≡ pattern_refusal pattern.now }
 {
     if pattern.len() == 0 {
-        return 9;
+        return Err(PatternRefusal::BadPattern);
     }
     if PATTERN_MAX < pattern.len() {
-        return 9;
+        return Err(PatternRefusal::BadPattern);
     }
     if has_byte(pattern, 0) {
-        return 9;
+        return Err(PatternRefusal::BadPattern);
     }
     if !is_utf8(pattern) {
-        return 36;
+        return Err(PatternRefusal::NotUtf8);
     }
     if PLUS_MAX < count_byte(pattern, b'+') {
-        return 9;
+        return Err(PatternRefusal::BadPattern);
     }
     if !validate_mqtt_wildcard(pattern) {
-        return 9;
+        return Err(PatternRefusal::BadPattern);
     }
-    0
+    Ok(())
 }

@@ -1,15 +1,20 @@
 -- Laws of `pattern_refusal`: what the number is test by test, in document 01's order, and what upper crates may take from an accepted pattern.
 -- Assumes nothing.
-use Rattle.std.proofs.Common.{◌≡◌, ℕ, ◌<◌, ◌≤◌, Bool, true, false, cond, not, ◌||◌, ltb, List, [], ◌∷◌, length, sym, refl, arith, ltb-false, le-ltb, lt-ltb}
+use Rattle.std.specs.Prelude.{Result}
+use Rattle.std.proofs.Common.{rules, ◌≡◌, ℕ, ◌<◌, ◌≤◌, Bool, true, false, cond, not, ◌||◌, ltb, List, [], ◌∷◌, length, sym, refl, arith, ltb-false, le-ltb, lt-ltb}
 use borrow.Author.Tests.{not-false}
 use Rattle.laws.specs.Lists.{none}
+use Rattle.laws.specs.Refusals.{refusal}
+use Rattle.laws.proofs.Refusals.{refusal_once}
 use Rattle.laws.proofs.Cases.{whichever}
 use Rattle.laws.proofs.Tests.{never, neither}
 use Rattle.slices.specs.Bytes.{has, count_of}
 use Rattle.topics.specs.Encoding.{Sendable}
 use Rattle.topics.specs.Levels.{levels}
-use Rattle.topics.specs.Patterns.{well_placed, valid_wildcards, pattern_refusal}
+use Rattle.topics.specs.Patterns.{well_placed, valid_wildcards, pattern_refusal, pattern_number}
 use Rattle.topics.specs.Utf8.{is_utf8}
+use Rattle.topics.specs.declared.patterns.PatternRefusal.{PatternRefusal}
+use Rattle.topics.specs.declared.patterns.PatternRefusal.TheVariants.{BadPattern, NotUtf8}
 use Rattle.topics.proofs.utf8.Decoded.{sendable}
 
 -- an empty pattern
@@ -121,3 +126,17 @@ refusal_number P p taken bad broken =
     (whichever P (not (is_utf8 p)) broken
     (whichever P (ltb 3 (count_of 43 p)) bad
     (whichever P (not (well_placed (levels p))) bad taken))))
+
+-- the number of a test's answer tells the whole answer
+pub check_once : (r s : Result Unit PatternRefusal) → refusal pattern_number r ≡ refusal pattern_number s → r ≡ s
+check_once = refusal_once pattern_number once real
+  where
+  once : (e f : PatternRefusal) → pattern_number e ≡ pattern_number f → e ≡ f
+  once BadPattern BadPattern p = refl
+  once BadPattern NotUtf8 p = absurd (omega (arith, p))
+  once NotUtf8 BadPattern p = absurd (omega (arith, p))
+  once NotUtf8 NotUtf8 p = refl
+
+  real : (e : PatternRefusal) → 1 ≤ pattern_number e
+  real BadPattern = omega arith
+  real NotUtf8 = omega arith

@@ -1,20 +1,16 @@
--- `matching::standard_matches` meets its contract: its two tests are the domain, and inside it the byte matcher is the standard's rule. Assumes nothing.
+-- `matching::standard_matches` meets its contract: inside its domain the byte matcher is the standard's rule. Assumes nothing.
 use Rattle.std.proofs.Common.{sym, ◌∙◌}
-use Rattle.topics.proofs.matching.StandardLaws.{outside_pattern, outside_name, inside}
+use Rattle.laws.proofs.Refusals.{unrefused}
+use Rattle.topics.specs.Patterns.{pattern_number}
+use Rattle.topics.proofs.matching.StandardLaws.{inside}
 use Rattle.topics.proofs.matching.standard_matches.Goals as goal
-
-pub returns-then-pattern_refusal-ne0 : goal.returns-then-pattern_refusal-ne0
-returns-then-pattern_refusal-ne0 c = outside_pattern _ _ (λ e. c.if-pattern_refusal-ne0.true (c.pattern_refusal.ensures ∙ e))
-
-pub returns-then-name-eq0 : goal.returns-then-name-eq0
-returns-then-name-eq0 c = outside_name _ _ c.if-name-eq0.true
 
 pub returns-then-matches_with : goal.returns-then-matches_with
 returns-then-matches_with c =
-    inside _ _ (sym c.pattern_refusal.ensures ∙ c.if-pattern_refusal-ne0.false) c.if-name-eq0.false
-    (sym c.matches_with.ensures ∙ c.if-matches_with.true)
+    inside _ _ (sym c.check_pattern.ensures ∙ unrefused pattern_number _ (sym c.is_err.ensures.value ∙ c.if-is_err.false))
+    c.if-name-eq0.false (sym c.matches_with.ensures ∙ c.if-matches_with.true)
 
 pub returns-else-matches_with : goal.returns-else-matches_with
 returns-else-matches_with c =
-    inside _ _ (sym c.pattern_refusal.ensures ∙ c.if-pattern_refusal-ne0.false) c.if-name-eq0.false
-    (sym c.matches_with.ensures ∙ c.if-matches_with.false)
+    inside _ _ (sym c.check_pattern.ensures ∙ unrefused pattern_number _ (sym c.is_err.ensures.value ∙ c.if-is_err.false))
+    c.if-name-eq0.false (sym c.matches_with.ensures ∙ c.if-matches_with.false)
