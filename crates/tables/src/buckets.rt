@@ -157,7 +157,6 @@ impl RateBucket {
 }
 
 // The place of a held identity.
-#[tactic(auto, using(crate::proofs::ScanLaws::position_placed))]
 pub(crate) fn find_held(buckets: &[RateBucket; BUCKETS], id: &Id) -> Option<usize>
     ensures { result ≡ placed 32 (find (holds_bucket id.now) buckets.now) }
 {
@@ -216,7 +215,6 @@ pub fn rate_limit_check(
 }
 
 // The place of the bucket that the remove call removes.
-#[tactic(auto, using(crate::proofs::ScanLaws::position_placed), unfolding(crate::specs::Buckets::removed_bucket))]
 pub fn removed_bucket(buckets: &[RateBucket; BUCKETS], id: &Id) -> Option<usize>
     ensures { result ≡ placed 32 (removed_bucket id.now buckets.now) }
 {

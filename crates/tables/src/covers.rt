@@ -3,7 +3,7 @@ ghost use Rattle.std.specs.Prelude.{◌≡◌, ◌≤◌, length};
 ghost use Rattle.tables.specs.Covers.{rule_covers, rule_witness, first_number, cover_report};
 
 use crate::rules::{RULES, TopicRule, places};
-use topics::covering::{Witness, find_witness};
+use topics::covering::{Witness, covers, find_witness};
 use topics::matching::{Matching, is_standard};
 
 // A name that only the later rule matches.
@@ -16,10 +16,12 @@ pub fn rule_witness(later: &TopicRule, earlier: &TopicRule, matching: Matching) 
 }
 
 // The earlier rule matches every name that the later one matches.
+#[tactic(auto, unfolding(crate::specs::Covers::rule_covers))]
 fn rule_covers(later: &TopicRule, earlier: &TopicRule, matching: Matching) -> bool
     ensures { result ≡ rule_covers matching later.now earlier.now }
 {
-    rule_witness(later, earlier, matching).len == 0
+    let standard = is_standard(matching);
+    covers(earlier.pattern(), later.pattern(), standard, standard)
 }
 
 // The number, from 1, of the first earlier rule that covers one; 0 for none.

@@ -195,7 +195,6 @@ impl TopicRule {
 }
 
 // The rule with an equal pattern, which `add_rule` overwrites: its place.
-#[tactic(auto, unfolding(crate::specs::Rules::equal_rule))]
 pub fn equal_rule(rules: &[TopicRule; RULES], count: usize, pattern: &[u8]) -> Option<usize>
     ensures { result ≡ placed (min count 32) (equal_rule pattern.now rules.now count) }
 {

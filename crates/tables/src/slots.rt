@@ -17,7 +17,6 @@ pub trait Record {
 }
 
 // The first free place.
-#[tactic(auto, using(crate::proofs::ScanLaws::position_placed))]
 pub fn free_place<T: Record>(slots: &[T]) -> Option<usize>
     ensures { result ≡ placed (length slots.now) (find (λ r. not (T.live r)) slots.now) }
 {

@@ -78,7 +78,7 @@ pub fn look_ahead(buckets: &[RateBucket; BUCKETS], id: &Id) -> Prospect
 }
 
 // How many places are taken.
-#[tactic(auto, using(crate::proofs::standing::StandingLaws::taken_by))]
+#[tactic(auto)]
 pub fn taken(buckets: &[RateBucket; BUCKETS]) -> usize
     ensures { result ≡ taken_in buckets.now }
 {

@@ -140,7 +140,6 @@ impl EwmaTracker {
 }
 
 // The place of a held identity.
-#[tactic(auto, using(crate::proofs::ScanLaws::position_placed))]
 fn find_held(trackers: &[EwmaTracker; TRACKERS], id: &Id) -> Option<usize>
     ensures { result ≡ placed 16 (find (holds_tracker id.now) trackers.now) }
 {
@@ -174,7 +173,6 @@ pub fn ewma_update(
 }
 
 // The place of the tracker that a remove call removes (000 `remove_ewma_tracker`).
-#[tactic(auto, using(crate::proofs::ScanLaws::position_placed), unfolding(crate::specs::Trackers::removed_tracker))]
 pub fn removed_tracker(trackers: &[EwmaTracker; TRACKERS], id: &Id) -> Option<usize>
     ensures { result ≡ placed 16 (removed_tracker id.now trackers.now) }
 {

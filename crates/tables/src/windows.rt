@@ -47,9 +47,10 @@ impl Record for ClientStormEntry {
 }
 
 // How many stamps are at or above a time.
-#[tactic(auto, using(crate::proofs::windows::WindowLaws::count_from_by))]
+#[tactic(auto)]
 fn stamps_from(stamps: &[u64], start: u64) -> usize
-    ensures { result ≡ count_from start stamps.now }
+    ensures count { result ≡ count_from start stamps.now }
+    ensures within { result ≤ length stamps.now }
 {
     stamps.iter().filter(|&&stamp| start <= stamp).count()
 }
@@ -118,7 +119,6 @@ impl ClientStormEntry {
 }
 
 // The place of a client's window.
-#[tactic(auto, using(crate::proofs::ScanLaws::position_placed))]
 fn find_held(clients: &[ClientStormEntry; WINDOWS], hashes: ClientHashes) -> Option<usize>
     ensures { result ≡ placed 16 (find (holds_client hashes) clients.now) }
 {

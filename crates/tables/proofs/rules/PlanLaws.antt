@@ -14,7 +14,7 @@ use Rattle.tables.specs.declared.rules.QosPolicy.{QosPolicy}
 use Rattle.tables.specs.declared.rules.TopicAction.{TopicAction}
 use Rattle.tables.specs.declared.rules.TopicRule.{TopicRule}
 use Rattle.tables.specs.Rules.{rule_of, overwritten, is_held, not_taken, rule_plan}
-use Rattle.tables.specs.declared.rules.RulePlan.{RulePlan}
+use Rattle.tables.specs.Rules.{RulePlan}
 
 -- whether a place counts: from 32 on none does, below it those below the count
 pub from_32 : (at n : ℕ) → 32 ≤ at → false ≡ ltb at (min n 32)
