@@ -62,38 +62,24 @@ impl Id {
     pub fn is_of(&self, topic: &Id) -> bool
         ensures { result ≡ is_of topic.now self.now }
     {
-        if self.len != topic.len {
-            return false;
-        }
-        if self.hash != topic.hash {
-            return false;
-        }
-        if self.hash2 != topic.hash2 {
-            return false;
-        }
-        if self.suffix_hash != topic.suffix_hash {
-            return false;
-        }
         let n = usize::from(topic.len)
             .min(usize::from(self.prefix_len))
             .min(PREFIX);
-        same_bytes(&self.prefix[..n], &topic.prefix[..n])
+        self.len == topic.len
+            && self.hash == topic.hash
+            && self.hash2 == topic.hash2
+            && self.suffix_hash == topic.suffix_hash
+            && same_bytes(&self.prefix[..n], &topic.prefix[..n])
     }
 
     // The test of the two remove calls: no suffix hash, all 32 bytes.
-    #[tactic(auto, unfolding(crate::specs::Identity::is_removed))]
+    #[tactic(auto, unfolding(crate::specs::Identity::is_removed, slices::specs::Bytes::same))]
     pub fn is_removed_by(&self, topic: &Id) -> bool
         ensures { result ≡ is_removed topic.now self.now }
     {
-        if self.len != topic.len {
-            return false;
-        }
-        if self.hash != topic.hash {
-            return false;
-        }
-        if self.hash2 != topic.hash2 {
-            return false;
-        }
-        same_bytes(&self.prefix, &topic.prefix)
+        self.len == topic.len
+            && self.hash == topic.hash
+            && self.hash2 == topic.hash2
+            && self.prefix == topic.prefix
     }
 }
