@@ -1,7 +1,7 @@
 // A topic's identity, made once a message, and the two tests of a held one against it (document 01, "Hashes"; 000 `matches_topic`, `make_topic_prefix`).
-ghost use Rattle.std.specs.Prelude.{◌≡◌, ◌++◌, ◌-◌, length, take, replicate};
+ghost use Rattle.std.specs.Prelude.{◌≡◌};
 
-use slices::bytes::same_bytes;
+use slices::bytes::padded;
 use topics::hashes::{djb2_hash, fnv1a_hash, suffix_hash};
 
 // How many of a topic's first bytes an identity keeps.
@@ -17,16 +17,6 @@ pub struct Id {
     pub prefix_len: u8,
     pub len: u16,
     pub suffix_hash: u32,
-}
-
-// The first N bytes, zeros after their end.
-pub(crate) fn padded<const N: usize>(bytes: &[u8]) -> [u8; N]
-    ensures { result ≡ take N bytes.now ++ replicate (N - length bytes.now) 0 }
-{
-    let n = bytes.len().min(N);
-    let mut out = [0u8; N];
-    out[..n].copy_from_slice(&bytes[..n]);
-    out
 }
 
 impl Id {
@@ -58,7 +48,7 @@ impl Id {
     }
 
     // Whether a held identity is that of a message's topic: the numbers, then as many of the first bytes as it keeps, and no more than the topic has.
-    #[tactic(auto, using(crate::proofs::identity::PrefixLaws::take_min_32), unfolding(crate::specs::Identity::is_of))]
+    #[tactic(auto, using(crate::proofs::identity::PrefixLaws::take_min_32), unfolding(crate::specs::Identity::is_of, slices::specs::Bytes::same))]
     pub fn is_of(&self, topic: &Id) -> bool
         ensures { result ≡ is_of topic.now self.now }
     {
@@ -69,7 +59,7 @@ impl Id {
             && self.hash == topic.hash
             && self.hash2 == topic.hash2
             && self.suffix_hash == topic.suffix_hash
-            && same_bytes(&self.prefix[..n], &topic.prefix[..n])
+            && self.prefix[..n] == topic.prefix[..n]
     }
 
     // The test of the two remove calls: no suffix hash, all 32 bytes.

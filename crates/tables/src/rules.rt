@@ -7,8 +7,7 @@ ghost use Rattle.tables.specs.Rules.{qos_ok, pattern_of, rule_fine, equal_rule, 
 ghost use Rattle.tables.specs.Rules.{rule_plan, told_plan};
 ghost use Rattle.tables.specs.Scan.{placed};
 
-use crate::identity::padded;
-use slices::bytes::same_bytes;
+use slices::bytes::padded;
 use topics::matching::{Matching, matches_by};
 use topics::patterns::{PATTERN_MAX, PatternRefusal, check_pattern};
 
@@ -180,10 +179,11 @@ impl TopicRule {
     }
 
     // A live rule has just this pattern.
+    #[tactic(auto, unfolding(slices::specs::Bytes::same))]
     fn has(&self, pattern: &[u8]) -> bool
         ensures { result ≡ (self.now.active && same (pattern_of self.now) pattern.now) }
     {
-        self.active && same_bytes(self.pattern(), pattern)
+        self.active && self.pattern() == pattern
     }
 
     // A live rule takes another's pattern, read as a topic: as the Rust has it, whatever matcher a monitor chose for its rules.
