@@ -11,7 +11,7 @@ use Rattle.tables.specs.Windows.{empty_window}
 use Rattle.tables.specs.declared.rules.QosPolicy.{QosPolicy}
 use Rattle.tables.specs.declared.rules.TopicAction.{TopicAction}
 use Rattle.tables.specs.declared.rules.TopicRule.{TopicRule}
-use Rattle.tables.specs.declared.rules.RulePlan.{RulePlan}
+use Rattle.tables.specs.Rules.{RulePlan}
 use Rattle.monitor.specs.State.{well_formed, with_rules, with_settings, with_tables, with_counters, ended}
 use Rattle.monitor.specs.Ended.{Called, Outcome, Done, Refused}
 use Rattle.monitor.specs.declared.state.MqttMonitor.{MqttMonitor}

@@ -9,7 +9,7 @@ use Rattle.laws.proofs.Cases.{by}
 use Rattle.tables.specs.Rules.{rule_plan}
 use Rattle.tables.specs.declared.rules.QosPolicy.{QosPolicy}
 use Rattle.tables.specs.declared.rules.TopicAction.{TopicAction}
-use Rattle.tables.specs.declared.rules.RulePlan.{RulePlan}
+use Rattle.tables.specs.Rules.{RulePlan}
 use Rattle.monitor.specs.Calls.{with_rule, shadows_in, add_rule}
 use Rattle.monitor.specs.State.{well_formed, number_of}
 use Rattle.monitor.specs.declared.state.MqttMonitor.{MqttMonitor}
