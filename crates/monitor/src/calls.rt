@@ -2,11 +2,12 @@
 ghost use Rattle.std.specs.Prelude.{◌≡◌};
 
 use crate::refusal::Refusal;
-use crate::state::{MqttMonitor, free_buckets, free_rules, free_trackers, free_windows};
-use tables::buckets::{BUCKETS, empty_bucket, removed_bucket};
-use tables::identity::id_of;
+use crate::state::{MqttMonitor, free_rules};
+use tables::buckets::{BUCKETS, RateBucket, removed_bucket};
+use tables::identity::Id;
 use tables::rules::TopicAction;
-use tables::trackers::{TRACKERS, empty_tracker, removed_tracker};
+use tables::trackers::{EwmaTracker, TRACKERS, removed_tracker};
+use tables::windows::{ClientStormEntry, WINDOWS};
 use topics::matching::Matching;
 
 impl MqttMonitor {
@@ -21,13 +22,13 @@ impl MqttMonitor {
         MqttMonitor {
             rules: free_rules(),
             rule_count: 0,
-            rate_buckets: free_buckets(),
-            connect_windows: free_windows(),
+            rate_buckets: [RateBucket::FREE; BUCKETS],
+            connect_windows: [ClientStormEntry::FREE; WINDOWS],
             connect_storm_threshold: 5,
             connect_storm_window_us: 60_000_000,
             default_action,
             matching,
-            ewma_trackers: free_trackers(),
+            ewma_trackers: [EwmaTracker::FREE; TRACKERS],
             next_alert_id: 1,
             total_inspected: 0,
             total_alerts: 0,
@@ -109,11 +110,8 @@ impl MqttMonitor {
         ensures state { self.new ≡ (remove_bucket self.old topic.now).monitor }
     {
         self.checked()?;
-        let at = removed_bucket(self.rate_buckets, id_of(topic));
-        if at >= BUCKETS {
-            return Err(Refusal::NotHeld);
-        }
-        self.rate_buckets[at] = empty_bucket();
+        let at = removed_bucket(&self.rate_buckets, &Id::of(topic)).ok_or(Refusal::NotHeld)?;
+        self.rate_buckets[at] = RateBucket::FREE;
         Ok(())
     }
 
@@ -124,11 +122,8 @@ impl MqttMonitor {
         ensures state { self.new ≡ (remove_tracker self.old topic.now).monitor }
     {
         self.checked()?;
-        let at = removed_tracker(self.ewma_trackers, id_of(topic));
-        if at >= TRACKERS {
-            return Err(Refusal::NotHeld);
-        }
-        self.ewma_trackers[at] = empty_tracker();
+        let at = removed_tracker(&self.ewma_trackers, &Id::of(topic)).ok_or(Refusal::NotHeld)?;
+        self.ewma_trackers[at] = EwmaTracker::FREE;
         Ok(())
     }
 
@@ -139,9 +134,9 @@ impl MqttMonitor {
         ensures state { self.new ≡ (reset_state self.old).monitor }
     {
         self.checked()?;
-        self.rate_buckets = free_buckets();
-        self.connect_windows = free_windows();
-        self.ewma_trackers = free_trackers();
+        self.rate_buckets = [RateBucket::FREE; BUCKETS];
+        self.connect_windows = [ClientStormEntry::FREE; WINDOWS];
+        self.ewma_trackers = [EwmaTracker::FREE; TRACKERS];
         self.next_alert_id = 1;
         self.total_inspected = 0;
         self.total_alerts = 0;

@@ -16,11 +16,7 @@ impl MqttMonitor {
         ensures { told_covers result ≡ covered_rules self.now }
     {
         self.checked()?;
-        Ok(cover_report(
-            self.rules,
-            usize::from(self.rule_count),
-            self.matching,
-        ))
+        Ok(cover_report(&self.rules, usize::from(self.rule_count), self.matching))
     }
 
     /// A name that the later of two rules matches and the earlier does not, of length 0 where there is none; 9 where the one is not there or the other is not before it.
@@ -32,10 +28,6 @@ impl MqttMonitor {
         if later >= usize::from(self.rule_count) || earlier >= later {
             return Err(Refusal::BadInput);
         }
-        Ok(rule_witness(
-            self.rules[later],
-            self.rules[earlier],
-            self.matching,
-        ))
+        Ok(rule_witness(&self.rules[later], &self.rules[earlier], self.matching))
     }
 }

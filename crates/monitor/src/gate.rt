@@ -1,14 +1,15 @@
 // The gate: what rules, message and topic alone decide (document 01, "Order inside one inspection"). It asks no table.
-ghost use Rattle.std.specs.Prelude.{cond, not, ◌&&◌, ◌≡◌, min, eqb, ltb, Option, Some, None};
+ghost use Rattle.std.specs.Prelude.{not, ◌&&◌, ◌≡◌, min, eqb};
 ghost use Rattle.topics.specs.Matching.{matches_by};
 ghost use Rattle.topics.specs.Names.{is_broad, starts_with_dollar, bad_publish};
 ghost use Rattle.tables.specs.Rules.{first_rule};
+ghost use Rattle.tables.specs.Scan.{placed};
 ghost use Rattle.monitor.specs.Message.{type_number};
 ghost use Rattle.monitor.specs.Gate.{is_block, ruled_by, ruled_by_default, stage_of, ends_early, denied_by, goes_on, gate_after, is_topical};
 
 use crate::message::{MqttMessage, MqttPacketType};
 use crate::state::MqttMonitor;
-use tables::rules::{QosPolicy, RULES, TopicAction, TopicRule, check_qos_policy, places, takes};
+use tables::rules::{QosPolicy, RULES, TopicAction, TopicRule, places};
 use topics::matching::Matching;
 use topics::names::{
     contains_invalid_publish_char, is_broad_wildcard_subscribe, starts_with_dollar,
@@ -23,7 +24,7 @@ pub enum Stage {
 }
 
 // What the first matching rule says; where there is none, the default with any QoS and no rate.
-#[derive(Clone, Copy)]
+#[derive(Clone, Copy, Debug, PartialEq, Eq)]
 pub struct Ruling {
     pub found: bool,
     pub at: usize,
@@ -74,17 +75,17 @@ fn first_rule(
     topic: &[u8],
     matching: Matching,
 ) -> Option<usize>
-    ensures { result ≡ cond (ltb (first_rule (matches_by matching) topic.now rules.now count) (min count 32)) (Some (first_rule (matches_by matching) topic.now rules.now count)) None }
+    ensures { result ≡ placed (min count 32) (first_rule (matches_by matching) topic.now rules.now count) }
 {
     rules[..places(count)]
         .iter()
-        .position(|rule| takes(*rule, topic, matching))
+        .position(|rule| rule.takes(topic, matching))
 }
 
 fn is_block(action: TopicAction) -> bool
     ensures { result ≡ is_block action }
 {
-    matches!(action, TopicAction::Block)
+    action == TopicAction::Block
 }
 
 fn stage_of(ruling: &Ruling) -> Stage
@@ -170,7 +171,7 @@ fn goes_on(msg: &MqttMessage, broad: bool, ruling: &Ruling) -> Gate
         stage: stage_of(ruling),
         denial: 0,
         broad,
-        qos: !check_qos_policy(ruling.qos_policy, msg.qos),
+        qos: !ruling.qos_policy.takes(msg.qos),
         rate: if publishes { ruling.rate } else { 0 },
         feeds: publishes && msg.payload_len > 0,
     }

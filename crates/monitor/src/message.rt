@@ -31,7 +31,7 @@ pub enum MqttPacketType {
 }
 
 // `payload_len` is the size, which feeds the tracker; `payload_inspectable_len` is the claimed length of the lent payload, which is hashed.
-#[derive(Clone, Copy)]
+#[derive(Clone, Copy, Debug, PartialEq, Eq)]
 pub struct MqttMessage {
     pub packet_type: MqttPacketType,
     pub topic_len: u8,

@@ -3,21 +3,21 @@
 ghost use Rattle.std.specs.Prelude.{cond, ◌||◌, ◌≡◌, eqb, ltb, replicate};
 ghost use Rattle.topics.specs.Payload.{payload_hash};
 ghost use Rattle.monitor.specs.Light.{light_plan};
-ghost use Rattle.monitor.specs.Plan.{not_connected, not_limited, not_fed, id_for, limiter_kind, plan_from};
+ghost use Rattle.monitor.specs.Plan.{id_for, limiter_kind, plan_from};
 
 use crate::alerts::{Findings, MqttInspectResult, Raised, raise_all};
 use crate::gate::{Gate, Stage};
 use crate::message::{MqttMessage, MqttPacketType};
 use crate::state::MqttMonitor;
-use tables::buckets::{BUCKETS, RateCheckResult, RateDecision, empty_bucket, rate_limit_check};
-use tables::identity::{Id, empty_id, id_of};
-use tables::trackers::{TRACKERS, TrackerDecision, empty_tracker, ewma_update};
-use tables::windows::{ConnectDecision, WINDOWS, empty_window, record_connect};
+use tables::buckets::{BUCKETS, RateBucket, RateCheckResult, RateDecision, rate_limit_check};
+use tables::identity::Id;
+use tables::trackers::{EwmaTracker, TRACKERS, TrackerDecision, ewma_update};
+use tables::windows::{ClientStormEntry, ConnectDecision, WINDOWS, record_connect};
 use topics::hashes::client_hashes;
 use topics::payload::compute_payload_hash;
 
 // What is to be stored where, and the message's result.
-#[derive(Drop)]
+#[derive(Clone, Copy, Debug, PartialEq, Eq)]
 pub struct Plan {
     pub stage: Stage,
     pub seen: ConnectDecision,
@@ -43,7 +43,7 @@ impl Plan {
 }
 
 // What each table decided on one message.
-#[derive(Drop)]
+#[derive(Clone, Copy, Debug, PartialEq, Eq)]
 struct Decided {
     seen: ConnectDecision,
     spent: RateDecision,
@@ -51,37 +51,25 @@ struct Decided {
 }
 
 // No window is asked.
-fn not_connected() -> ConnectDecision
-    ensures { result ≡ not_connected }
-{
-    ConnectDecision {
-        at: WINDOWS,
-        entry: empty_window(),
-        storm: false,
-    }
-}
+const NOT_CONNECTED: ConnectDecision = ConnectDecision {
+    at: WINDOWS,
+    entry: ClientStormEntry::FREE,
+    storm: false,
+};
 
 // The limiter is not asked.
-fn not_limited() -> RateDecision
-    ensures { result ≡ not_limited }
-{
-    RateDecision {
-        at: BUCKETS,
-        bucket: empty_bucket(),
-        result: RateCheckResult::Allowed,
-    }
-}
+const NOT_LIMITED: RateDecision = RateDecision {
+    at: BUCKETS,
+    bucket: RateBucket::FREE,
+    result: RateCheckResult::Allowed,
+};
 
 // The tracker is not fed.
-fn not_fed() -> TrackerDecision
-    ensures { result ≡ not_fed }
-{
-    TrackerDecision {
-        at: TRACKERS,
-        tracker: empty_tracker(),
-        alert: false,
-    }
-}
+const NOT_FED: TrackerDecision = TrackerDecision {
+    at: TRACKERS,
+    tracker: EwmaTracker::FREE,
+    alert: false,
+};
 
 // The kind by which the limiter denies, 0 for none.
 pub(crate) fn limiter_kind(checked: RateCheckResult) -> u32
@@ -124,9 +112,9 @@ fn id_for(gate: &Gate, topic: &[u8]) -> Id
     ensures { result ≡ id_for gate.now topic.now }
 {
     if gate.rate > 0 || gate.feeds {
-        id_of(topic)
+        Id::of(topic)
     } else {
-        empty_id()
+        Id::EMPTY
     }
 }
 
@@ -166,9 +154,9 @@ pub fn plan_light(gate: Gate, msg: &MqttMessage, payload: &[u8], next_id: u64, t
     ensures { result ≡ light_plan next_id total msg.now payload.now gate }
 {
     let decided = Decided {
-        seen: not_connected(),
-        spent: not_limited(),
-        fed: not_fed(),
+        seen: NOT_CONNECTED,
+        spent: NOT_LIMITED,
+        fed: NOT_FED,
     };
     plan_from(&gate, decided, msg, payload, next_id, total)
 }
@@ -183,10 +171,10 @@ impl MqttMonitor {
         ensures { result ≡ seen_of self.now.connect_windows self.now.connect_storm_threshold self.now.connect_storm_window_us msg.now topic.now }
     {
         if msg.packet_type != MqttPacketType::Connect {
-            return not_connected();
+            return NOT_CONNECTED;
         }
         record_connect(
-            self.connect_windows,
+            &self.connect_windows,
             client_hashes(topic),
             msg.timestamp_us,
             self.connect_storm_threshold,
@@ -200,9 +188,9 @@ impl MqttMonitor {
         ensures { result ≡ spent_of self.now.rate_buckets rate id.now time }
     {
         if rate == 0 {
-            return not_limited();
+            return NOT_LIMITED;
         }
-        rate_limit_check(self.rate_buckets, *id, rate, time)
+        rate_limit_check(&self.rate_buckets, id, rate, time)
     }
 
     // What the payload trackers decide.
@@ -211,9 +199,9 @@ impl MqttMonitor {
         ensures { result ≡ fed_of self.now.ewma_trackers feeds id.now msg.now.payload_len msg.now.timestamp_us }
     {
         if !feeds {
-            return not_fed();
+            return NOT_FED;
         }
-        ewma_update(self.ewma_trackers, *id, msg.payload_len, msg.timestamp_us)
+        ewma_update(&self.ewma_trackers, id, msg.payload_len, msg.timestamp_us)
     }
 
     /// The plan of a message with its used topic and payload: nothing is stored, `apply` does that.

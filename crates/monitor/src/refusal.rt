@@ -1,6 +1,8 @@
 // Why a call is refused: nothing changed. Each reason has the number that a person is told (docs/NUMBERS.md).
 ghost use Rattle.std.specs.Prelude.{◌≡◌};
 
+use tables::rules::RuleRefusal;
+
 #[derive(Clone, Copy, Debug, PartialEq, Eq)]
 pub enum Refusal {
     /// All 32 rules are held.
@@ -23,5 +25,21 @@ impl Refusal {
         ensures { result ≡ refusal_number self }
     {
         self as u32
+    }
+}
+
+impl From<RuleRefusal> for Refusal {
+    ghost use Rattle.std.specs.Prelude.{◌≡◌};
+    ghost use Rattle.tables.specs.Rules.{rule_number};
+    ghost use Rattle.monitor.specs.Refusal.{refusal_number};
+
+    ghost from_gives = { λ rule refusal. refusal_number refusal ≡ rule_number rule };
+
+    fn from(why: RuleRefusal) -> Refusal {
+        match why {
+            RuleRefusal::TableFull => Refusal::TableFull,
+            RuleRefusal::BadPattern => Refusal::BadInput,
+            RuleRefusal::NotUtf8 => Refusal::NotUtf8,
+        }
     }
 }

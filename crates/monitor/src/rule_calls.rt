@@ -5,10 +5,7 @@ ghost use Rattle.monitor.specs.Calls.{without};
 
 use crate::refusal::Refusal;
 use crate::state::{MqttMonitor, free_rules};
-use tables::rules::{
-    QosPolicy, RULES, TopicAction, TopicRule, empty_rule, plan_rule, shadow_count,
-};
-use topics::patterns::{PatternRefusal, check_pattern};
+use tables::rules::{QosPolicy, RULES, TopicAction, TopicRule, plan_rule, shadow_count};
 
 // The rule at a place goes: later ones move up, and the last place is free.
 #[tactic(auto, unfolding(crate::specs::Calls::without))]
@@ -17,12 +14,19 @@ fn take_out(rules: &mut [TopicRule; RULES], at: usize, count: usize)
     ensures { rules.new ≡ without rules.old at count }
 {
     rules.copy_within(at + 1..count, at);
-    rules[count - 1] = empty_rule();
+    rules[count - 1] = TopicRule::FREE;
 }
 
 impl MqttMonitor {
-    ghost use Rattle.monitor.specs.Calls.{add_rule, remove_rule, swap_rules, clear_rules, validate_rules};
+    ghost use Rattle.monitor.specs.Calls.{shadows_in, add_rule, remove_rule, swap_rules, clear_rules, validate_rules};
     ghost use Rattle.monitor.specs.Ended.{told_value, told_done};
+
+    // How many rules an earlier one shadows.
+    fn shadows(&self) -> u16
+        ensures { result ≡ shadows_in self.now }
+    {
+        shadow_count(&self.rules, usize::from(self.rule_count))
+    }
 
     // Adds a rule, or changes the settings of the one with its pattern; success hands back the shadow count.
     #[tactic(auto, unfolding(crate::specs::Calls::add_rule))]
@@ -37,25 +41,17 @@ impl MqttMonitor {
         ensures state { self.new ≡ (add_rule self.old pattern.now action qos_policy max_rate_per_sec).monitor }
     {
         self.checked()?;
-        match check_pattern(pattern) {
-            Ok(()) => {}
-            Err(PatternRefusal::BadPattern) => return Err(Refusal::BadInput),
-            Err(PatternRefusal::NotUtf8) => return Err(Refusal::NotUtf8),
-        }
-        let plan = plan_rule(
-            self.rules,
+        let placement = plan_rule(
+            &self.rules,
             self.rule_count,
             pattern,
             action,
             qos_policy,
             max_rate_per_sec,
-        );
-        if plan.number != 0 {
-            return Err(Refusal::TableFull);
-        }
-        self.rules[plan.at] = plan.rule;
-        self.rule_count = plan.count;
-        Ok(shadow_count(self.rules, usize::from(self.rule_count)))
+        )?;
+        self.rules[placement.at] = placement.rule;
+        self.rule_count = placement.count;
+        Ok(self.shadows())
     }
 
     // Removes the rule at an index; 9 where there is none.
@@ -107,6 +103,6 @@ impl MqttMonitor {
         ensures { told_value result ≡ validate_rules self.now }
     {
         self.checked()?;
-        Ok(shadow_count(self.rules, usize::from(self.rule_count)))
+        Ok(self.shadows())
     }
 }

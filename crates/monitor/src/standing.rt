@@ -7,12 +7,12 @@ use crate::message::{MqttMessage, MqttPacketType, TOPIC_MAX};
 use crate::plan::limiter_kind;
 use crate::refusal::Refusal;
 use crate::state::MqttMonitor;
-use tables::identity::id_of;
+use tables::identity::Id;
 use tables::rules::MqttQoS;
 use tables::standing::{Opening, look_ahead};
 
 // A Publish is denied by `kind` before the opening and allowed from it on. `rate` above 0: the limiter counts it.
-#[derive(Drop)]
+#[derive(Clone, Copy, Debug, PartialEq, Eq)]
 pub struct Outlook {
     pub kind: u32,
     pub rate: u16,
@@ -79,7 +79,7 @@ impl MqttMonitor {
                 opening: Opening::From(0),
             });
         }
-        let prospect = look_ahead(self.rate_buckets, id_of(topic));
+        let prospect = look_ahead(&self.rate_buckets, &Id::of(topic));
         Ok(Outlook {
             kind: if prospect.held { 5 } else { 6 },
             rate: gate.rate,
@@ -104,7 +104,7 @@ impl MqttMonitor {
                 tokens: 0,
             });
         }
-        let spent = self.spent_for(gate.rate, &id_of(topic), now_us);
+        let spent = self.spent_for(gate.rate, &Id::of(topic), now_us);
         Ok(Left {
             kind: limiter_kind(spent.result),
             rate: gate.rate,

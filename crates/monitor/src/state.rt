@@ -2,20 +2,20 @@
 // handed in: number 10 refuses those that no call hands out.
 ghost use Rattle.std.specs.Prelude.{◌≡◌, cond, Result, Ok, Err, replicate};
 ghost use Rattle.laws.specs.Lists.{every};
-ghost use Rattle.tables.specs.Buckets.{bucket_fine, empty_bucket};
+ghost use Rattle.tables.specs.Buckets.{bucket_fine};
 ghost use Rattle.tables.specs.Rules.{rule_fine, empty_rule};
-ghost use Rattle.tables.specs.Trackers.{tracker_fine, empty_tracker};
-ghost use Rattle.tables.specs.Windows.{window_fine, empty_window};
+ghost use Rattle.tables.specs.Trackers.{tracker_fine};
+ghost use Rattle.tables.specs.Windows.{window_fine};
 
 use crate::refusal::Refusal;
-use tables::buckets::{BUCKETS, RateBucket, bucket_fine, empty_bucket};
-use tables::rules::{RULES, TopicAction, TopicRule, empty_rule, rule_fine};
-use tables::trackers::{EwmaTracker, TRACKERS, empty_tracker, tracker_fine};
-use tables::windows::{ClientStormEntry, WINDOWS, empty_window, window_fine};
+use tables::buckets::{BUCKETS, RateBucket};
+use tables::rules::{RULES, TopicAction, TopicRule};
+use tables::trackers::{EwmaTracker, TRACKERS};
+use tables::windows::{ClientStormEntry, WINDOWS};
 use topics::matching::Matching;
 
 // `matching` is the matcher that the rules are chosen by. The Rust has no such field: its own is `Port` (request C-15). A constructor sets it, and no call changes it.
-#[derive(Clone, Drop)]
+#[derive(Clone, Debug, PartialEq, Eq, Drop)]
 pub struct MqttMonitor {
     pub rules: [TopicRule; RULES],
     pub rule_count: u16,
@@ -35,28 +35,28 @@ pub struct MqttMonitor {
 fn rules_fine(rules: &[TopicRule]) -> bool
     ensures { result ≡ every rule_fine rules.now }
 {
-    rules.iter().all(|rule| rule_fine(*rule))
+    rules.iter().all(|rule| rule.is_fine())
 }
 
 // No live bucket has a prefix length over 32 or a remainder over 999,999.
 fn buckets_fine(buckets: &[RateBucket]) -> bool
     ensures { result ≡ every bucket_fine buckets.now }
 {
-    buckets.iter().all(|bucket| bucket_fine(*bucket))
+    buckets.iter().all(|bucket| bucket.is_fine())
 }
 
 // No live window has a count over 16.
 fn windows_fine(clients: &[ClientStormEntry]) -> bool
     ensures { result ≡ every window_fine clients.now }
 {
-    clients.iter().all(|entry| window_fine(*entry))
+    clients.iter().all(|entry| entry.is_fine())
 }
 
 // No live tracker has a prefix length over 32.
 fn trackers_fine(trackers: &[EwmaTracker]) -> bool
     ensures { result ≡ every tracker_fine trackers.now }
 {
-    trackers.iter().all(|tracker| tracker_fine(*tracker))
+    trackers.iter().all(|tracker| tracker.is_fine())
 }
 
 impl MqttMonitor {
@@ -91,30 +91,5 @@ impl MqttMonitor {
 pub fn free_rules() -> [TopicRule; RULES]
     ensures { result ≡ replicate 32 empty_rule }
 {
-    let rule = empty_rule();
-    [rule; RULES]
-}
-
-// A table of free buckets.
-pub(crate) fn free_buckets() -> [RateBucket; BUCKETS]
-    ensures { result ≡ replicate 32 empty_bucket }
-{
-    let bucket = empty_bucket();
-    [bucket; BUCKETS]
-}
-
-// A table of free CONNECT windows.
-pub(crate) fn free_windows() -> [ClientStormEntry; WINDOWS]
-    ensures { result ≡ replicate 16 empty_window }
-{
-    let entry = empty_window();
-    [entry; WINDOWS]
-}
-
-// A table of free trackers.
-pub(crate) fn free_trackers() -> [EwmaTracker; TRACKERS]
-    ensures { result ≡ replicate 16 empty_tracker }
-{
-    let tracker = empty_tracker();
-    [tracker; TRACKERS]
+    [TopicRule::FREE; RULES]
 }

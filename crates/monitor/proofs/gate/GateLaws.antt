@@ -4,13 +4,10 @@ use mathlib.Core.List.{List, [], ◌∷◌}
 use mathlib.Core.Path.{◌≡◌, refl, sym, ◌∙◌}
 use Prim.Native.Nat.{ℕ, ◌<◌, ◌≤◌, min}
 use native.Mathlib.Omega.{arith}
-use borrow.Author.Tests.{le-ltb, lt-ltb, ltb-false}
-use lib.Dec.{eqb, ltb}
+use borrow.Author.Tests.{le-ltb, lt-ltb}
+use lib.Dec.{eqb}
 use lib.ListN.{length, get_or, take, length-take}
-use Rattle.std.specs.Prelude.{Option, Some, None}
-use Rattle.std.specs.List.{position, position_or_len}
 use Rattle.laws.specs.Lists.{none}
-use Rattle.laws.proofs.Cases.{by}
 use Rattle.laws.proofs.Tests.{both}
 use Rattle.topics.specs.Names.{is_broad, starts_with_dollar, bad_publish}
 use Rattle.tables.specs.Rules.{first_rule, no_rule, pattern_of}
@@ -33,33 +30,20 @@ pub none_not : (t : List ℕ) → (length t ≡ 0 → ⊥) → none t ≡ false
 none_not [] n = absurd (n refl)
 none_not (b ∷ t) n = refl
 
--- `find` is std's word, and so a chain's `position` is the place that `find` tells
-find_is : {A : Type 0} (p : A → Bool) (l : List A) → position_or_len p l ≡ find p l
-unfolding find
-find_is p [] = refl
-find_is p (x ∷ l) =
-    let ih = find_is p l in by (p x) (λ e. rw (e, find) refl) (λ e. rw (e, find) (omega (arith, ih)))
-
-pub place_found : {A : Type 0} (p : A → Bool) (l : List A) {n : ℕ} {r : Option ℕ} → r ≡ position p l → length l ≡ n
-    → r ≡ cond (ltb (find p l) n) (Some (find p l)) None
-place_found p l e h = rw (e, ← h, find_is p l)
-
 -- the ruling, from the place that the search found
 module _ (matcher : List ℕ → List ℕ → Bool) (rules : List TopicRule) (n : ℕ) (default : TopicAction) (topic : List ℕ) {at : ℕ} (found : at ≡ first_rule matcher topic rules n) where
   pub ruled_here : {r : Ruling} → at < min n 32 → r ≡ ruled_by (get_or rules at no_rule) at → r ≡ ruling_of matcher rules n default topic
   unfolding ruling_of
   ruled_here h e = rw (← found, lt-ltb _ _ h) e
 
--- and where it found none
+-- and where it found none: it ends where the rules do
 pub ruled_none : (matcher : List ℕ → List ℕ → Bool) (rules : List TopicRule) (n : ℕ) (default : TopicAction) (topic : List ℕ) {r : Ruling} → length rules ≡ 32
-    → None ≡ cond (ltb (first_rule matcher topic rules n) (min n 32)) (Some (first_rule matcher topic rules n)) None → r ≡ ruled_by_default default (min n 32)
-    → r ≡ ruling_of matcher rules n default topic
+    → min n 32 ≤ first_rule matcher topic rules n → r ≡ ruled_by_default default (min n 32) → r ≡ ruling_of matcher rules n default topic
 unfolding ruling_of first_rule
 ruled_none matcher rules n default topic full none e =
     let p : TopicRule → Bool = λ x. x.active && matcher topic (pattern_of x) in
-    let at = find p (take n rules) in
-    by (ltb at (min n 32)) (λ h. let q : None ≡ Some at = rw h at none in cc)
-    (λ h. let s : at ≡ min n 32 = omega (arith, ltb-false at (min n 32) h, find-le p (take n rules), length-take n rules, full) in rw (h, s) e)
+    let end : find p (take n rules) ≡ min n 32 = omega (arith, none, find-le p (take n rules), length-take n rules, full) in
+    rw (le-ltb _ _ none, end) e
 
 -- after rule choice, for a type's number, whether it is a Subscribe to one of the three broad topics, and whether it is one to a dollar topic with no
 -- matching Allow rule

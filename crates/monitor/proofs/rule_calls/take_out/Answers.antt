@@ -1,5 +1,6 @@
 -- `rule_calls::take_out` meets its contract: the rules behind the place are copied a place up, and the last place is freed. Assumes nothing.
-use Rattle.std.proofs.Common.{◌≡◌, ◌+◌, ◌-◌, arith, rules, length}
+use Rattle.std.proofs.Common.{ℕ, ◌≡◌, ap, ◌∙◌, ◌+◌, ◌-◌, arith, rules, length, set, drop}
+use lib.Seq.{paste}
 use Rattle.tables.specs.Rules.{empty_rule}
 use Rattle.monitor.specs.Calls.{without}
 use Rattle.monitor.proofs.rule_calls.MoveLaws.{moved_done}
@@ -12,4 +13,7 @@ returns c =
     let n : length a.rules.now ≡ 32 = search rules in
     let i = a.count - (a.at + 1) in
     let last : a.count - 1 ≡ a.at + i = omega (arith, c.requires) in
-    rw (c.copy_within.ensures.after, c.empty_rule.ensures, last) (moved_done a.rules.now a.at i {n = a.count} empty_rule (omega arith) (omega (arith, c.requires)) (omega (arith, c.requires)))
+    let moved = paste a.rules.now a.at (drop (a.at + 1) a.rules.now) i in
+    rw c.copy_within.ensures.after
+    (ap (λ (k : ℕ). set moved k empty_rule) last
+    ∙ moved_done a.rules.now a.at i {n = a.count} empty_rule (omega arith) (omega (arith, c.requires)) (omega (arith, c.requires)))

@@ -1,11 +1,12 @@
 -- `state::buckets_fine` meets its contract: the chain's word is `every`. Assumes nothing.
-use Rattle.std.proofs.Common.{◌≡◌, ◌∙◌, rules, arith}
-use Rattle.std.proofs.lemmas.Grind.{common_steps}
-use Rattle.std.specs.List.{list_all}
+use Rattle.std.proofs.Common.{◌∙◌, rules, tests}
+use Rattle.std.proofs.lemmas.Iterator.{YieldsList-from_slice}
+use Rattle.std.proofs.lemmas.Iterator.Search.{all_from_yields_List}
 use Rattle.laws.proofs.Every.{list_all_every}
 use Rattle.tables.specs.Buckets.{bucket_fine}
 use Rattle.monitor.proofs.state.buckets_fine.Goals as goal
 
 pub returns : goal.returns
 returns c =
-    let all : c.all.result ≡ list_all bucket_fine c.args.buckets.now = grind (arith, common_steps) in all ∙ list_all_every bucket_fine c.args.buckets.now
+    all_from_yields_List bucket_fine _ _ _ c.all.ensures.ran (YieldsList-from_slice c.args.buckets.now cc) (λ x b q k. search (rules, tests))
+    ∙ list_all_every bucket_fine c.args.buckets.now

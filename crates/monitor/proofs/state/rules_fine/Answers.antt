@@ -1,11 +1,12 @@
 -- `state::rules_fine` meets its contract: the chain's word is `every`. Assumes nothing.
-use Rattle.std.proofs.Common.{◌≡◌, ◌∙◌, rules, arith}
-use Rattle.std.proofs.lemmas.Grind.{common_steps}
-use Rattle.std.specs.List.{list_all}
+use Rattle.std.proofs.Common.{◌∙◌, rules, tests}
+use Rattle.std.proofs.lemmas.Iterator.{YieldsList-from_slice}
+use Rattle.std.proofs.lemmas.Iterator.Search.{all_from_yields_List}
 use Rattle.laws.proofs.Every.{list_all_every}
 use Rattle.tables.specs.Rules.{rule_fine}
 use Rattle.monitor.proofs.state.rules_fine.Goals as goal
 
 pub returns : goal.returns
 returns c =
-    let all : c.all.result ≡ list_all rule_fine c.args.rules.now = grind (arith, common_steps) in all ∙ list_all_every rule_fine c.args.rules.now
+    all_from_yields_List rule_fine _ _ _ c.all.ensures.ran (YieldsList-from_slice c.args.rules.now cc) (λ x b q k. search (rules, tests))
+    ∙ list_all_every rule_fine c.args.rules.now
