@@ -1,5 +1,5 @@
 -- `MqttMonitor::ruling_for` meets its contract: where no rule takes the topic, the search ends with the rules. Assumes nothing.
-use Rattle.std.proofs.Common.{◌≡◌, ◌∙◌, sym, rules, length}
+use Rattle.std.proofs.Common.{◌≡◌, rules, length}
 use Rattle.tables.proofs.ScanLaws.{placed_none}
 use Rattle.monitor.specs.State.{matcher_of}
 use Rattle.monitor.proofs.gate.GateLaws.{ruled_none}
