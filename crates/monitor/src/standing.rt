@@ -27,6 +27,19 @@ pub struct Left {
     pub tokens: u16,
 }
 
+impl Outlook {
+    // Denied by the gate, whatever the time.
+    fn barred(kind: u32) -> Outlook
+        ensures { result ≡ record { kind = kind; rate = 0; opening = Opening.Never } }
+    {
+        Outlook {
+            kind,
+            rate: 0,
+            opening: Opening::Never,
+        }
+    }
+}
+
 // A Publish: of what it says only its type is asked.
 fn a_publish() -> MqttMessage
     ensures { result ≡ a_publish }
@@ -66,11 +79,7 @@ impl MqttMonitor {
         }
         let gate = self.publish_gate(topic);
         if gate.denial > 0 {
-            return Ok(Outlook {
-                kind: gate.denial,
-                rate: 0,
-                opening: Opening::Never,
-            });
+            return Ok(Outlook::barred(gate.denial));
         }
         if gate.rate == 0 {
             return Ok(Outlook {
