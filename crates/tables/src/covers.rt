@@ -29,7 +29,10 @@ fn first_cover(earlier: &[TopicRule], later: &TopicRule, matching: Matching) -> 
     requires { length earlier.now ≤ 32 }
     ensures { result ≡ first_number (rule_covers matching later.now) earlier.now }
 {
-    match earlier.iter().position(|rule| rule_covers(later, rule, matching)) {
+    match earlier
+        .iter()
+        .position(|rule| rule_covers(later, rule, matching))
+    {
         Some(at) => at as u8 + 1,
         None => 0,
     }

@@ -1,4 +1,3 @@
-use Rattle.std.proofs.Common.{rules}
 use Rattle.tables.proofs.covers.CoverLaws.{report_start, report_on, report_end}
 use Rattle.tables.proofs.covers.cover_report.Goals as goal
 

@@ -1,4 +1,4 @@
-use Rattle.std.proofs.Common.{rules, ◌≡◌, ◌∙◌, sym, refl, arith}
+use Rattle.std.proofs.Common.{◌∙◌, sym, arith}
 use Rattle.tables.proofs.rules.ShadowLaws.{turn_hidden, turn_plain, turn_end}
 use Rattle.tables.proofs.rules.shadow_count.Goals.{then-is_shadowed, else-is_shadowed}
 use Rattle.tables.proofs.rules.shadow_count.Goals as goal
@@ -15,17 +15,17 @@ loop-at-preserved c =
     let t = c.loop-at-test.true in
     elim c.if-is_shadowed.branch [
       | then-is_shadowed w ↦
-        let e = sym c.is_shadowed.ensures ∙ w.if-is_shadowed.true in
-        record {
-          most = omega (arith, w.shadowed-is, i.most);
-          counted = rw w.shadowed-is (turn_hidden c.args.rules.now c.args.count c.loop-at.at c.loop-at.shadowed c.told-rules c.places-at-end.ensures i.counted t e);
-        }
+          let e = sym c.is_shadowed.ensures ∙ w.if-is_shadowed.true in
+          record {
+            most = omega (arith, w.shadowed-is, i.most);
+            counted = rw w.shadowed-is (turn_hidden c.args.rules.now c.args.count c.loop-at.at c.loop-at.shadowed c.told-rules c.places-at-end.ensures i.counted t e);
+          }
       | else-is_shadowed w ↦
-        let e = sym c.is_shadowed.ensures ∙ w.if-is_shadowed.false in
-        record {
-          most = omega (arith, w.shadowed-is, i.most);
-          counted = rw w.shadowed-is (turn_plain c.args.rules.now c.args.count c.loop-at.at c.loop-at.shadowed c.told-rules c.places-at-end.ensures i.counted t e);
-        }
+          let e = sym c.is_shadowed.ensures ∙ w.if-is_shadowed.false in
+          record {
+            most = omega (arith, w.shadowed-is, i.most);
+            counted = rw w.shadowed-is (turn_plain c.args.rules.now c.args.count c.loop-at.at c.loop-at.shadowed c.told-rules c.places-at-end.ensures i.counted t e);
+          }
     ]
 
 pub returns : goal.returns
