@@ -28,7 +28,7 @@ find_same s p q same (x ∷ l) e =
     by (q x) (λ y. rw (e ∙ y, y, find)) (λ y. rw (e ∙ y, y, find, find_same s p q same l h.1))
 
 -- `find` is std's word, and so a chain's `position` is the place that `find` tells
-find_is : {A : Type 0} (p : A → Bool) (l : List A) → position_or_len p l ≡ find p l
+pub find_is : {A : Type 0} (p : A → Bool) (l : List A) → position_or_len p l ≡ find p l
 unfolding find
 find_is p [] = refl
 find_is p (x ∷ l) =
@@ -105,13 +105,6 @@ module _ {A : Type 0} (f : A → ℕ) (l : List A) (i : ℕ) (d : A) where
         let b = inv.inside in
         let o : at - (i - 1) ≡ suc (at - i) = omega arith in
         record { from = omega arith; inside = b; found = rw (one_more z (omega arith), inv.found, lt-leb _ _ e, o) }
-
--- the place that such a loop ends with
-pub least_done : {A : Type 0} {f : A → ℕ} {l : List A} {at u i : ℕ} → LeastFrom f l at u i → i ≤ 0 → at ≡ least_place (least_of f any l)
-least_done {f} {l} {at} {u} {i} inv z =
-    let o : i ≡ 0 = omega arith in
-    let e : least_of f any (drop 0 l) ≡ least (at - 0) u = rw o at inv.found in
-    let g : at ≡ at - 0 = omega arith in rw e g
 
 -- what is true of the first place that passes
 module _ {A : Type 0} (p : A → Bool) where

@@ -151,8 +151,7 @@ impl RateBucket {
     pub fn is_fine(&self) -> bool
         ensures { result ≡ bucket_fine self.now }
     {
-        !self.active
-            || usize::from(self.id.prefix_len) <= PREFIX && self.remainder <= REMAINDER_MAX
+        !self.active || usize::from(self.id.prefix_len) <= PREFIX && self.remainder <= REMAINDER_MAX
     }
 }
 

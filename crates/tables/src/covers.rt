@@ -29,19 +29,23 @@ fn first_cover(earlier: &[TopicRule], later: &TopicRule, matching: Matching) -> 
     requires { length earlier.now ≤ 32 }
     ensures { result ≡ first_number (rule_covers matching later.now) earlier.now }
 {
-    match earlier.iter().position(|rule| rule_covers(later, rule, matching)) {
+    match earlier
+        .iter()
+        .position(|rule| rule_covers(later, rule, matching))
+    {
         Some(at) => at as u8 + 1,
         None => 0,
     }
 }
 
-// For each rule the number, from 1, of the first before it that covers it; 0 for none, and for the places past the count.
+// For each rule the number, from 1, of the first before it that covers it; 0 for none, and for the places past the count: a person counts so, and the claims read these numbers
+// (monitor/specs/Covered.antt).
 pub fn cover_report(rules: &[TopicRule; RULES], count: usize, matching: Matching) -> [u8; RULES]
     ensures { result ≡ cover_report matching rules.now count }
 {
     let mut numbers = [0u8; RULES];
-    for at in 0..places(count) {
-        numbers[at] = first_cover(&rules[..at], &rules[at], matching);
+    for (at, later) in rules[..places(count)].iter().enumerate() {
+        numbers[at] = first_cover(&rules[..at], later, matching);
     }
     numbers
 }

@@ -303,8 +303,8 @@ pub fn shadow_count(rules: &[TopicRule; RULES], count: usize) -> u16
     ensures { result ≡ shadow_count rules.now count }
 {
     let mut shadowed = 0;
-    for at in 0..places(count) {
-        if is_shadowed(&rules[at], &rules[..at]) {
+    for (at, later) in rules[..places(count)].iter().enumerate() {
+        if is_shadowed(later, &rules[..at]) {
             shadowed += 1;
         }
     }

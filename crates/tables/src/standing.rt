@@ -10,14 +10,15 @@ use crate::slots::{free_place, oldest_place};
 // The longest wait of a newcomer, in microseconds: with it a bucket is idle too long.
 const IDLE_OVER: u64 = IDLE_MAX + 1;
 
-// From a time on, or not within 64 bits.
+// From a time on, or not within 64 bits. Its own enum, not `Option<u64>`: the definitions `opens` and `opening_of` and the claims on them (theorems/specs/Standing.antt) read
+// its cases.
 #[derive(Clone, Copy, Debug, PartialEq, Eq)]
 pub enum Opening {
     Never,
     From(u64),
 }
 
-// Whether an identity is held, and from when on a message of it passes.
+// Whether an identity is held, and from when on a message of it passes: both have one.
 #[derive(Clone, Copy, Debug, PartialEq, Eq)]
 pub struct Prospect {
     pub held: bool,

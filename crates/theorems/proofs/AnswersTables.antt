@@ -228,7 +228,7 @@ pub any-rules-RuleRefusal-number : Any rules-RuleRefusal-number.ended rules-Rule
 any-rules-RuleRefusal-number κs a = tt
 
 pub one-rules-plan_rule : One rules-plan_rule.ended rules-plan_rule-reads.Post
-one-rules-plan_rule κs a x y e f p q = told_once _ _ _ (p.plan ∙ sym q.plan)
+one-rules-plan_rule κs a x y e f p q = told_once _ _ _ (p.0 ∙ sym q.0)
 
 pub any-rules-plan_rule : Any rules-plan_rule.ended rules-plan_rule-reads.Asked
 any-rules-plan_rule κs a = tt

@@ -1,13 +1,13 @@
--- The ways through `plan_rule`: the pattern's own number, an equal pattern, a full table, a new rule; and that a rule that is taken has a place; last, that a plan tells the whole answer. Assumes nothing.
+-- The ways through `rule_plan`: the pattern's own number, an equal pattern, a full table, a new rule; that a rule that is taken has a place; last, that a plan tells the whole answer. Assumes nothing.
 use mathlib.Core.Bool.{Bool, true, false}
 use mathlib.Core.List.{List}
 use mathlib.Core.Path.{◌≡◌, refl, sym, ap, ◌∙◌}
 use Prim.Native.Nat.{ℕ, ◌+◌, ◌≤◌, ◌<◌, min}
 use native.Mathlib.Omega.{arith}
-use borrow.Author.Tests.{lt-ltb, le-ltb, ltb-true, ltb-false, eq-eqb, ne_eqb, eqb-true, eqb-false}
+use borrow.Author.Tests.{lt-ltb, ltb-true, ltb-false, eq-eqb, eqb-true, eqb-false}
 use lib.Dec.{eqb, ltb}
 use lib.ListN.{get_or}
-use Rattle.laws.proofs.Cases.{by, choose}
+use Rattle.laws.proofs.Cases.{choose}
 use Rattle.topics.specs.Patterns.{pattern_refusal}
 use Rattle.tables.specs.Rules.{equal_rule, no_rule}
 use Rattle.tables.specs.declared.rules.QosPolicy.{QosPolicy}
@@ -20,43 +20,14 @@ use Rattle.tables.specs.declared.rules.RuleRefusal.{RuleRefusal}
 use Rattle.tables.specs.declared.rules.RuleRefusal.TheVariants.{TableFull, BadPattern, NotUtf8}
 use Rattle.tables.specs.Rules.{RulePlan}
 
--- whether a place counts: from 32 on none does, below it those below the count
-pub from_32 : (at n : ℕ) → 32 ≤ at → false ≡ ltb at (min n 32)
-from_32 at n h = sym (le-ltb at (min n 32) (omega (arith, h)))
-
-pub below_32 : (at n : ℕ) → at < 32 → ltb at n ≡ ltb at (min n 32)
-below_32 at n h =
-    by (ltb at n)
-    (λ e. rw e (sym (lt-ltb at (min n 32) (omega (arith, h, ltb-true at n e)))))
-    (λ e. rw e (sym (le-ltb at (min n 32) (omega (arith, h, ltb-false at n e)))))
-
-pub counts_below : (at n : ℕ) {held : Bool} → held ≡ ltb at (min n 32) → held ≡ true → at < 32
-counts_below at n test h = omega (arith, ltb-true at (min n 32) (sym test ∙ h))
-
 module _ (rules : List TopicRule) (n : ℕ) (p : List ℕ) (action : TopicAction) (policy : QosPolicy) (rate : ℕ) where
   module _ {k : ℕ} (says : k ≡ pattern_refusal p) where
-    -- the pattern is refused
-    pub plan_own : (k ≡ 0 → ⊥) → not_taken k n ≡ rule_plan rules n p action policy rate
-    unfolding rule_plan
-    plan_own h = rw (← says, ne_eqb k 0 h)
-
     module _ (ok : k ≡ 0) {at : ℕ} (found : at ≡ equal_rule p rules n) {held : Bool} (test : held ≡ ltb at (min n 32)) where
       right : eqb (pattern_refusal p) 0 ≡ true
       right = eq-eqb (pattern_refusal p) 0 (sym says ∙ ok)
 
       told : {b : Bool} → held ≡ b → is_held rules n p ≡ b
       told h = rw (← found) (sym test ∙ h)
-
-      -- an equal pattern is held: it is overwritten in place
-      pub plan_held : held ≡ true
-          → record { number = 0; at = at; rule = overwritten (get_or rules at no_rule) action policy rate; count = n } ≡ rule_plan rules n p action policy rate
-      unfolding rule_plan
-      plan_held h = rw (right, told h, found)
-
-      -- the table is full
-      pub plan_full : held ≡ false → 32 ≤ n → not_taken 6 n ≡ rule_plan rules n p action policy rate
-      unfolding rule_plan
-      plan_full h full = rw (right, told h, le-ltb n 32 full)
 
       -- a new rule comes last
       pub plan_new : held ≡ false → n < 32

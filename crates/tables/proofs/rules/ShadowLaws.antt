@@ -1,12 +1,12 @@
 -- The shadow count: the earlier rules that a chain asks, and what one turn of the loop counts. Assumes nothing.
-use mathlib.Core.Bool.{Bool, true, false, cond, ◌&&◌, ◌||◌, false≢true, true≢false, and-false}
+use mathlib.Core.Bool.{Bool, true, false, cond, ◌&&◌}
 use mathlib.Core.List.{List, [], ◌∷◌}
-use mathlib.Core.Path.{◌≡◌, refl, sym, ◌∙◌}
+use mathlib.Core.Path.{◌≡◌, refl}
 use Prim.Native.Nat.{ℕ, ◌+◌, ◌<◌, ◌≤◌, min}
 use native.Mathlib.Numerals.{add-one}
 use native.Mathlib.Omega.{arith}
 use lib.ListN.{length, take, drop, get_or, length-take, drop_of_length-le}
-use lib.Seq.{drop-cons, take-suc, get_or-take, length-take-le}
+use lib.Seq.{drop-cons, take-suc, get_or-take}
 use Rattle.std.specs.List.{list_any}
 use Rattle.topics.specs.Matching.{port_matches}
 use Rattle.tables.specs.declared.rules.TopicRule.{TopicRule}

@@ -1,12 +1,10 @@
 -- What a look ahead answers of a held identity, and the live buckets of a table: how many there are, and the oldest. Assumes nothing.
-use mathlib.Core.Bool.{Bool, true, false, cond, ◌&&◌, ◌||◌, true≢false}
-use mathlib.Core.List.{List, [], ◌∷◌}
-use mathlib.Core.Path.{◌≡◌, refl, sym, ap, ◌∙◌}
-use Prim.Native.Nat.{ℕ, suc, ◌+◌, ◌-◌, ◌<◌, ◌≤◌}
-use native.Mathlib.Numerals.{add-one}
+use mathlib.Core.Bool.{Bool, true, false, cond}
+use mathlib.Core.List.{List, ◌∷◌}
+use mathlib.Core.Path.{◌≡◌, refl, ap, ◌∙◌}
+use Prim.Native.Nat.{ℕ, suc, ◌-◌, ◌<◌, ◌≤◌}
 use native.Mathlib.Omega.{arith}
 use borrow.Author.Tests.{lt-ltb, le-leb, lt-leb}
-use lib.Dec.{eqb, leb}
 use lib.ListN.{length, get_or, drop, drop_of_length-le}
 use lib.Seq.{drop-cons}
 use Rattle.std.specs.Prelude.{Option, Some, None}
@@ -14,11 +12,11 @@ use Rattle.std.specs.List.{count_by}
 use Rattle.std.proofs.lemmas.List.Recursion.{is_count_by}
 use Rattle.laws.proofs.Cases.{by}
 use Rattle.tables.specs.Buckets.{no_bucket, holds_bucket}
-use Rattle.tables.specs.Scan.{find, placed, absent, least, in_front, skipped, least_of, least_place, any}
+use Rattle.tables.specs.Scan.{find, placed, absent, least, in_front, skipped, least_of}
 use Rattle.tables.specs.Standing.{opening_of, prospect_in, taken_in, oldest_live}
 use Rattle.tables.specs.declared.identity.Id.{Id}
 use Rattle.tables.specs.declared.buckets.RateBucket.{RateBucket}
-use Rattle.tables.proofs.buckets.PlaceLaws.{time_of, is_free}
+use Rattle.tables.proofs.buckets.PlaceLaws.{time_of}
 
 -- an identity that is held at a place
 pub prospect_held : (bs : List RateBucket) (id : Id) {i : ℕ} → i ≡ find (holds_bucket id) bs → i < length bs

@@ -1,7 +1,7 @@
 -- Payload trackers: what a fed message does to the table. Last, what the crates above need: the tracker handed back
 -- is fine if the table's were and the topic's prefix length is. Assumes nothing.
 use mathlib.Core.Path.{◌≡◌}
-use mathlib.Core.Bool.{Bool, true, not, ◌&&◌}
+use mathlib.Core.Bool.{Bool, true, not}
 use mathlib.Core.List.{List}
 use Prim.Native.Nat.{ℕ, ◌<◌, ◌≤◌}
 use borrow.Author.Tests.{le-leb}
@@ -9,8 +9,7 @@ use lib.ListN.{length, get_or}
 use Rattle.tables.specs.declared.identity.Id.{Id}
 use Rattle.tables.specs.declared.trackers.EwmaTracker.{EwmaTracker}
 use Rattle.tables.specs.declared.trackers.TrackerDecision.{TrackerDecision}
-use Rattle.tables.specs.Identity.{is_removed}
-use Rattle.tables.specs.Scan.{find, seat}
+use Rattle.tables.specs.Scan.{seat}
 use Rattle.tables.specs.Trackers.{fed, fresh_tracker, holds_tracker, no_tracker, feed_at, feed, tracker_fine}
 use Rattle.tables.proofs.LookupLaws.{looked_up}
 

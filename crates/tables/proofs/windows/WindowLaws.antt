@@ -1,22 +1,20 @@
 -- CONNECT windows: the stamps counted, and what the crates above need: the window handed back is fine if the table's were. Assumes nothing.
-use mathlib.Core.Path.{◌≡◌, refl, sym, ◌∙◌}
+use mathlib.Core.Path.{◌≡◌, refl}
 use mathlib.Core.Bool.{Bool, true, false, cond, not, ◌||◌}
-use mathlib.Core.List.{List, [], ◌∷◌, ◌++◌}
-use Prim.Native.Nat.{ℕ, zero, suc, ◌+◌, ◌-◌, ◌≤◌, ◌<◌, min}
-use native.Mathlib.Numerals.{add-one}
+use mathlib.Core.List.{List}
+use Prim.Native.Nat.{ℕ, ◌+◌, ◌<◌}
 use native.Mathlib.Omega.{arith}
-use borrow.Author.Tests.{eq-eqb, ne_eqb, le-leb, leb-true, leb-false, ltb-true, not-true, not-false}
-use lib.Dec.{eqb, leb, ltb}
-use lib.ListN.{length, get_or, take}
-use lib.Seq.{take-suc, take_all}
+use borrow.Author.Tests.{le-leb, ltb-true}
+use lib.Dec.{leb, ltb}
+use lib.ListN.{length, get_or}
 use Rattle.std.specs.List.{count_by}
 use Rattle.std.proofs.lemmas.List.Recursion.{is_count_by}
 use Rattle.laws.proofs.Cases.{by}
 use Rattle.topics.specs.declared.hashes.ClientHashes.{ClientHashes}
 use Rattle.tables.specs.declared.windows.ClientStormEntry.{ClientStormEntry}
 use Rattle.tables.specs.declared.windows.ConnectDecision.{ConnectDecision}
-use Rattle.tables.specs.Scan.{find, seat}
-use Rattle.tables.specs.Windows.{fresh_window, recorded, count_from, in_window, holds_client, no_window, connect_at, connect, window_fine}
+use Rattle.tables.specs.Scan.{seat}
+use Rattle.tables.specs.Windows.{fresh_window, recorded, count_from, holds_client, no_window, connect_at, connect, window_fine}
 use Rattle.tables.proofs.LookupLaws.{looked_up}
 
 -- what a newcomer's place is chosen by: a free one, else the least last-seen

@@ -1,4 +1,4 @@
-use Rattle.std.proofs.Common.{rules, ◌∙◌, refl, arith}
+use Rattle.std.proofs.Common.{rules, ◌∙◌, refl}
 use Rattle.tables.proofs.ScanLaws.{placed_some, placed_none}
 use Rattle.tables.proofs.buckets.PlaceLaws.{at_free, at_expired, at_least}
 use Rattle.tables.proofs.buckets.newcomer.Goals as goal

@@ -1,7 +1,6 @@
-use Rattle.std.proofs.Common.{rules, tests, ◌≡◌}
+use Rattle.std.proofs.Common.{rules, tests}
 use Rattle.std.proofs.lemmas.Iterator.{YieldsList-from_slice}
 use Rattle.std.proofs.lemmas.Iterator.Search.{position_from_yields_List}
-use Rattle.std.specs.List.{position}
 use Rattle.tables.specs.Covers.{rule_covers}
 use Rattle.tables.proofs.covers.CoverLaws.{number_some, number_none}
 use Rattle.tables.proofs.covers.first_cover.Goals as goal

@@ -11,5 +11,5 @@ pub returns-then-later : goal.returns-then-later
 returns-then-later c =
     let p = pattern_of c.args.later.now in
     let e : c.any.result ≡ list_any (λ r. r.active && port_matches p (pattern_of r)) c.args.earlier.now =
-      any_from_yields_List _ _ _ _ c.any.ensures.ran (YieldsList-from_slice c.args.earlier.now cc) (λ x b q k. search (rules, tests)) in
+    any_from_yields_List _ _ _ _ c.any.ensures.ran (YieldsList-from_slice c.args.earlier.now cc) (λ x b q k. search (rules, tests)) in
     rw c.if-later.true (e ∙ shadowed_any p c.args.earlier.now)

@@ -1,6 +1,6 @@
-use Rattle.std.proofs.Common.{rules, ◌≡◌, ◌∙◌, ◌<◌, ◌≤◌, ◌+◌, ◌-◌, List, [], ◌∷◌, ℕ, refl, arith, length, get_or, ap, sym}
+use Rattle.std.proofs.Common.{rules, ◌≡◌, ◌∙◌, ◌+◌, ◌-◌, List, [], ◌∷◌, ℕ, refl, arith, length, get_or, ap}
 use Rattle.tables.specs.Scan.{least_of, least_place, any}
-use Rattle.tables.proofs.ScanLaws.{least_last, least_front, least_stays, least_done, LeastFrom}
+use Rattle.tables.proofs.ScanLaws.{least_last, least_front, least_stays}
 use Rattle.tables.proofs.slots.oldest_place.Goals as goal
 
 no_least : {X : Type 0} (f : X → ℕ) (xs : List X) → length xs ≡ 0 → 0 ≡ least_place (least_of f any xs)

@@ -1,4 +1,4 @@
-use Rattle.std.proofs.Common.{rules, arith}
+use Rattle.std.proofs.Common.{rules}
 use Rattle.tables.proofs.standing.StandingLaws.{live_start, live_wins, live_dead, live_younger, live_done}
 use Rattle.tables.proofs.standing.oldest_live.Goals.{else-buckets-at-via-then-buckets-at+else-then-time, else-buckets-at-via-else-buckets-at}
 use Rattle.tables.proofs.standing.oldest_live.Goals as goal
@@ -14,9 +14,9 @@ pub loop-at-preserved : goal.loop-at-preserved
 loop-at-preserved c =
     elim c.else-buckets-at.branch [
       | else-buckets-at-via-then-buckets-at+else-then-time w ↦
-        live_younger c.args.buckets.now c.told-buckets c.loop-at.at c.loop-at-test.true c.loop-at.auto.at c.loop-at.invariant w.if-buckets-at.true w.if-then-time.false (search rules)
+          live_younger c.args.buckets.now c.told-buckets c.loop-at.at c.loop-at-test.true c.loop-at.auto.at c.loop-at.invariant w.if-buckets-at.true w.if-then-time.false (search rules)
       | else-buckets-at-via-else-buckets-at w ↦
-        live_dead c.args.buckets.now c.told-buckets c.loop-at.at c.loop-at-test.true c.loop-at.auto.at c.loop-at.invariant w.if-buckets-at.false
+          live_dead c.args.buckets.now c.told-buckets c.loop-at.at c.loop-at-test.true c.loop-at.auto.at c.loop-at.invariant w.if-buckets-at.false
     ]
 
 pub returns : goal.returns
