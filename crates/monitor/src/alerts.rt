@@ -16,7 +16,7 @@ pub enum AlertSeverity {
     Critical = 4,
 }
 
-// `source_id` is the alert's kind, 1 to 11.
+// `source_id` is the alert's kind, 1 to 11; a number, since `severity_of` and a trace's record are promised for every number.
 #[derive(Clone, Copy, Debug, PartialEq, Eq)]
 pub struct SecurityAlert {
     pub id: u64,
@@ -26,7 +26,7 @@ pub struct SecurityAlert {
     pub source_id: u32,
 }
 
-// The count stands beside the alerts: `put_record` takes any, and refuses a count over 4 (number 10 of a record).
+// The count stands beside the alerts: `write_record` of `trace` takes any such record, and refuses by number 10 a count over 4, which a type would exclude.
 #[derive(Clone, Copy, Debug, PartialEq, Eq)]
 pub struct MqttInspectResult {
     pub allowed: bool,
