@@ -1,3 +1,4 @@
+pub mod KindLaws
 pub mod Missing
 pub mod RefusalLaws
 pub mod Steps

@@ -3,6 +3,7 @@
 -- Assumes nothing.
 use Rattle.std.specs.Prelude.{Bool, true, false, cond, List, ℕ, ◌+◌, ◌*◌, ◌/◌, ◌%◌, ◌≤◌, eqb, ltb, length, get_or, Option, Some, None, Result, Ok, Err}
 use Rattle.lines.specs.Span.{part}
+use Rattle.monitor.specs.Message.{type_number, type_at}
 use Rattle.packets.specs.Refusal.{refusal_number}
 use Rattle.packets.specs.declared.header.Header.{Header}
 use Rattle.packets.specs.declared.header.Length.{Length}
@@ -84,13 +85,14 @@ refused_header number = record { number = number; kind = 0; flags = 0; from = 0;
 
 -- what the code reads, so told
 abbrev pub header_told : Result Header PacketRefusal → ToldHeader
-header_told (Ok h) = record { number = 0; kind = h.kind; flags = h.flags; from = h.from; to = h.to }
+header_told (Ok h) = record { number = 0; kind = type_number h.packet_type; flags = h.flags; from = h.from; to = h.to }
 header_told (Err e) = refused_header (refusal_number e)
 
+-- of the two reserved types, 0 and 15, the number is 15: nothing tells them apart (proofs/KindLaws.antt)
 unfoldable pub header_of : List ℕ → ToldHeader
 header_of s =
     cond (eqb (header_refusal s) 0)
-    (record { number = 0; kind = type_of s; flags = flags_of s; from = body_from s; to = size_of s })
+    (record { number = 0; kind = type_number (type_at (type_of s)); flags = flags_of s; from = body_from s; to = size_of s })
     (refused_header (header_refusal s))
 
 -- four bytes of seven bits each

@@ -1,8 +1,9 @@
 // The fixed header of a packet (MQTT 3.1.1, section 2.2).
-ghost use Rattle.std.specs.Prelude.{◌≡◌, ◌+◌, ◌≤◌, length};
-ghost use Rattle.packets.specs.Header.{byte_at, length_told, length_at, header_told, header_of, LengthSmall, HeaderIn};
+ghost use Rattle.std.specs.Prelude.{◌≡◌, ◌<◌};
+ghost use Rattle.packets.specs.Header.{byte_at, length_told, length_at, header_told, header_of, type_of, LengthSmall, HeaderIn};
 
 use crate::refusal::PacketRefusal;
+use monitor::message::{MqttPacketType, type_at};
 
 // A length field: how many bytes it has, and the number that they say.
 #[derive(Clone, Copy, Debug, PartialEq, Eq)]
@@ -11,10 +12,10 @@ pub struct Length {
     pub value: usize,
 }
 
-// A header: the packet's type and flags; and its body, which stands at from..to, from the packet's first byte.
-#[derive(Clone, Copy, Debug, PartialEq, Eq)]
+// A header: the packet's type, of which `Auth` is what MQTT 3.1.1 reserves, by either of its numbers, 0 and 15; its flags; and its body, which stands at from..to, from the packet's first byte.
+#[derive(Clone, Copy)]
 pub struct Header {
-    pub kind: u8,
+    pub packet_type: MqttPacketType,
     pub flags: u8,
     pub from: usize,
     pub to: usize,
@@ -74,6 +75,7 @@ fn length_at(s: &[u8], at: usize) -> Option<Length>
 pub fn read_header(s: &[u8]) -> Result<Header, PacketRefusal>
     ensures value { header_told result ≡ header_of s.now }
     ensures within { HeaderIn s.now (header_told result) }
+    ensures typed { type_of s.now < 16 }
 {
     let length = length_at(s, 1).ok_or(PacketRefusal::Malformed)?;
     let from = 1 + length.bytes;
@@ -82,7 +84,7 @@ pub fn read_header(s: &[u8]) -> Result<Header, PacketRefusal>
         return Err(PacketRefusal::Incomplete);
     }
     Ok(Header {
-        kind: s[0] / 16,
+        packet_type: type_at(u64::from(s[0] / 16)),
         flags: s[0] % 16,
         from,
         to,

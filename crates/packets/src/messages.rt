@@ -1,5 +1,6 @@
 // The messages of a packet, one at a step (request C-11).
 ghost use Rattle.std.specs.Prelude.{◌≡◌, ◌+◌, ◌-◌, ◌≤◌, length, Some, Ok};
+ghost use Rattle.monitor.specs.Message.{type_number};
 ghost use Rattle.packets.specs.Header.{header_told};
 ghost use Rattle.packets.specs.Messages.{Placed, message_told, sent_from, message_for, message_at};
 ghost use Rattle.packets.specs.Piece.{piece_told};
@@ -8,7 +9,7 @@ use crate::bodies::piece_at;
 use crate::header::{Header, read_header};
 use crate::piece::Piece;
 use crate::refusal::PacketRefusal;
-use monitor::message::{MqttMessage, PAYLOAD_MAX, TOPIC_MAX, type_at};
+use monitor::message::{MqttMessage, PAYLOAD_MAX, TOPIC_MAX};
 use tables::rules::qos_at;
 
 /// A message of a packet: the message as the monitor takes it; the places of its topic and of the inspected part of its payload in the bytes; and the step of the next one.
@@ -25,14 +26,14 @@ pub struct PacketMessage {
 // The message of a piece of the packet at a place, whose body stands at from..to of the packet.
 fn sent_from(h: Header, place: usize, now_us: u64, ok: bool, p: Piece) -> PacketMessage
     requires { Placed (header_told (Ok h)) place (piece_told (Some p)) }
-    ensures { message_told (Ok result) ≡ sent_from h.kind (h.to - h.from) (place + h.from) now_us ok (piece_told (Some p)) }
+    ensures { message_told (Ok result) ≡ sent_from (type_number h.packet_type) (h.to - h.from) (place + h.from) now_us ok (piece_told (Some p)) }
 {
     let base = place + h.from;
     let size = h.to - h.from - p.rest;
     let inspected = size.min(PAYLOAD_MAX);
     PacketMessage {
         msg: MqttMessage {
-            packet_type: type_at(u64::from(h.kind)),
+            packet_type: h.packet_type,
             topic_len: (p.to - p.from) as u8,
             qos: qos_at(u64::from(p.qos)),
             payload_len: size.min(65535) as u16,
@@ -61,7 +62,7 @@ fn message_for(
     ensures { message_told result ≡ message_for s.now place step now_us ok }
 {
     let h = read_header(s)?;
-    let Some(p) = piece_at(h.kind, h.flags, &s[h.from..h.to], step) else {
+    let Some(p) = piece_at(h.packet_type, h.flags, &s[h.from..h.to], step) else {
         return Err(PacketRefusal::Malformed);
     };
     if TOPIC_MAX < p.to - p.from {

@@ -21,10 +21,10 @@ fn packet_of(s: &[u8]) -> Result<Packet, PacketRefusal>
 {
     let h = read_header(s)?;
     let body = &s[h.from..h.to];
-    if !body_built(h.kind, h.flags, body) {
+    if !body_built(h.packet_type, h.flags, body) {
         return Err(PacketRefusal::Malformed);
     }
-    let seen = look_at(h.kind, h.flags, body);
+    let seen = look_at(h.packet_type, h.flags, body);
     if !seen.sound {
         return Err(PacketRefusal::Malformed);
     }
@@ -34,7 +34,7 @@ fn packet_of(s: &[u8]) -> Result<Packet, PacketRefusal>
     Ok(Packet {
         length: h.to,
         messages: seen.count,
-        first: first_step(h.kind),
+        first: first_step(h.packet_type),
     })
 }
 

@@ -59,10 +59,6 @@ module _ (subscribe : Bool) (b : List ℕ) (at : ℕ) {f q : ToldField} (e : f �
   unfolding filter_at filter_from
   filter_good h = rw (← e, ← g, h)
 
-  pub filter_none : request_fine q ≡ false → no_piece ≡ filter_at subscribe b at
-  unfolding filter_at filter_from
-  filter_none h = rw (← e, ← g, h)
-
 -- the next one begins further on
 pub filter_further : (subscribe : Bool) (b : List ℕ) (at : ℕ) → (filter_at subscribe b at).fine ≡ true → at < (filter_at subscribe b at).next
 filter_further subscribe b at u = let h = (filter_in subscribe b at).further u in omega arith

@@ -2,7 +2,7 @@
 use mathlib.Core.Bool.{true, false, ◌&&◌}
 use mathlib.Core.List.{List, []}
 use mathlib.Core.Path.{◌≡◌, refl, sym, ◌∙◌}
-use Prim.Native.Nat.{ℕ, ◌≤◌}
+use Prim.Native.Nat.{ℕ, ◌≤◌, ◌<◌}
 use native.Mathlib.Omega.{arith}
 use lib.Dec.{eqb, ltb}
 use lib.ListN.{length, drop, drop_of_length-le}
@@ -17,6 +17,7 @@ use Rattle.packets.specs.Piece.{good_piece, is_long}
 use Rattle.packets.specs.declared.bodies.Looked.{Looked}
 use Rattle.packets.specs.Refusal.{refusal_number}
 use Rattle.packets.specs.declared.refusal.PacketRefusal.{PacketRefusal}
+use Rattle.packets.proofs.KindLaws.{same_refusal, same_pieces, same_first}
 use Rattle.packets.proofs.RefusalLaws.{refusal_some}
 use Rattle.packets.proofs.header.LengthLaws.{Read, number_is, header_read}
 
@@ -76,14 +77,14 @@ module _ (s : List ℕ) where
   pub packet_err : (e : PacketRefusal) → refused_header (refusal_number e) ≡ header_of s → refused_packet (refusal_number e) ≡ packet_of s
   packet_err e r = unread r (refusal_some e)
 
-  module _ {h : ToldHeader} (e : h ≡ header_of s) (z : h.number ≡ 0) where
+  module _ {h : ToldHeader} (e : h ≡ header_of s) (z : h.number ≡ 0) (k : type_of s < 16) where
     abbrev read : Read s h
     read = header_read s e z
 
     -- the body's refusal is the packet's
     module _ {n : ℕ} (r : body_refusal h.kind h.flags (part s h.from h.to) ≡ n) where
       pub refusal_is : packet_refusal s ≡ n
-      refusal_is = by_header read.refusal ∙ rw (read.kind, read.flags, read.from, read.to) at r
+      refusal_is = by_header read.refusal ∙ sym (same_refusal (type_of s) (flags_of s) (body_in s) k) ∙ rw (read.kind, read.flags, read.from, read.to) at r
 
       pub body_refused : (n ≡ 0 → ⊥) → refused_packet n ≡ packet_of s
       body_refused = refused_by refusal_is
@@ -92,7 +93,9 @@ module _ (s : List ℕ) where
         → {messages first : ℕ} → messages ≡ length (pieces_of h.kind h.flags (part s h.from h.to)) → first ≡ first_step h.kind
         → record { number = 0; length = h.to; messages = messages; first = first } ≡ packet_of s
     unfolding packet_of
-    body_taken r m f = rw (refusal_is r, m, f, read.kind, read.flags, read.from, read.to)
+    body_taken r m f =
+        let p = same_pieces (type_of s) (flags_of s) (body_in s) k in
+        rw (refusal_is r, m, f, read.kind, read.flags, read.from, read.to, p, same_first (type_of s) k)
 
 -- a place without bytes
 pub header_none : header_refusal [] ≡ 31

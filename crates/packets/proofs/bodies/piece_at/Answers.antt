@@ -2,8 +2,8 @@
 use Rattle.packets.proofs.bodies.PieceLaws.{connect_in, publish_in}
 use Rattle.packets.proofs.bodies.piece_at.Goals as goal
 
-pub returns-then-kind-eq1-clause-within : goal.returns-then-kind-eq1-clause-within
-returns-then-kind-eq1-clause-within c = rw c.connect_piece.ensures (connect_in _)
+pub returns-in-Connect-clause-within : goal.returns-in-Connect-clause-within
+returns-in-Connect-clause-within c = rw c.connect_piece.ensures (connect_in _)
 
-pub returns-then-kind-eq3-clause-within : goal.returns-then-kind-eq3-clause-within
-returns-then-kind-eq3-clause-within c = rw c.publish_piece.ensures (publish_in _ _)
+pub returns-in-Publish-clause-within : goal.returns-in-Publish-clause-within
+returns-in-Publish-clause-within c = rw c.publish_piece.ensures (publish_in _ _)
