@@ -2,10 +2,9 @@
 ghost use Rattle.std.specs.Prelude.{◌≡◌, length};
 ghost use Rattle.packets.specs.Packet.{packet_at};
 ghost use Rattle.packets_text.specs.PacketText.{lines_end, lines_kept};
-ghost use Rattle.jack.specs.Sized.{sized_of};
+ghost use Rattle.jack.specs.Sized.{sized_of, lines_of};
 
-use jack::reading::PacketSize;
-use packets_text::written::PacketLines;
+use jack::reading::{PacketLines, PacketSize};
 
 // The packet at a place, any place: 31 where no byte stands there.
 #[unsafe(no_mangle)]
@@ -24,7 +23,7 @@ pub extern "C" fn hub_packet_lines(
     clock_ok: bool,
     out: &mut [u8],
 ) -> PacketLines
-    ensures answer { result ≡ lines_end bytes.now place at clock_ok (length out.old) }
+    ensures answer { result ≡ lines_of (lines_end bytes.now place at clock_ok (length out.old)) }
     ensures buffer { out.new ≡ lines_kept bytes.now place at clock_ok out.old }
 {
     jack::reading::hub_packet_lines(bytes, place, at, clock_ok, out)

@@ -1,3 +1,5 @@
+pub mod KindLaws
 pub mod Missing
+pub mod RefusalLaws
 pub mod Steps
 pub mod Taken

@@ -1,3 +1,4 @@
 pub mod MessageText
 pub mod PacketText
 pub mod ReadBack
+pub mod Refusal

@@ -1,20 +1,20 @@
 -- A packet's messages as the lines of a trace (request C-11): what stands in a buffer after the call, and what the call hands back.
 -- Assumes nothing.
-use Rattle.std.specs.Prelude.{Bool, cond, List, [], ◌∷◌, ◌++◌, ℕ, eqb, leb, length}
+use Rattle.std.specs.Prelude.{Bool, cond, List, [], ◌∷◌, ◌++◌, ℕ, eqb, leb, length, Result, Ok, Err}
 use Rattle.std.proofs.lemmas.List.Edits.{sets}
-use Rattle.packets.specs.Messages.{messages_at}
+use Rattle.packets.specs.Messages.{messages_at, ToldMessage}
 use Rattle.packets.specs.Packet.{packet_at, first_of}
 use Rattle.packets.specs.Taken.{topic_bytes, payload_bytes}
-use Rattle.packets.specs.declared.messages.PacketMessage.{PacketMessage}
 use Rattle.packets_text.specs.MessageText.{message_text}
-use Rattle.packets_text.specs.declared.written.PacketLines.{PacketLines}
+use Rattle.packets_text.specs.Refusal.{lines_number}
+use Rattle.packets_text.specs.declared.refusal.LinesRefusal.{LinesRefusal}
 
 -- the lines of a message of some bytes
-abbrev pub text_of : List ℕ → PacketMessage → List ℕ
+abbrev pub text_of : List ℕ → ToldMessage → List ℕ
 text_of s m = message_text m.msg (topic_bytes s m) (payload_bytes s m)
 
 -- those of messages one after the other
-unfoldable pub texts_of : List ℕ → List PacketMessage → List ℕ
+unfoldable pub texts_of : List ℕ → List ToldMessage → List ℕ
 texts_of s [] = []
 texts_of s (m ∷ ms) = text_of s m ++ texts_of s ms
 
@@ -27,12 +27,23 @@ unfoldable pub lines_refusal : List ℕ → ℕ → ℕ → Bool → ℕ → ℕ
 lines_refusal s place now_us ok room =
     first_of (packet_at s place).number (cond (leb (length (packet_text s place now_us ok)) room) 0 28)
 
+-- how a packet's lines were written: 0, or the number that refused them; the line, which is 0, since no line was read; and how many bytes were written, none where a number refused them
+pub record ToldLines : Type 0 where
+  pub number : ℕ
+  pub line : ℕ
+  pub length : ℕ
+
 -- lines that are refused
-abbrev pub no_lines : ℕ → PacketLines
+abbrev pub no_lines : ℕ → ToldLines
 no_lines number = record { number = number; line = 0; length = 0 }
 
--- what is handed back; the line is 0, since no line was read
-unfoldable pub lines_end : List ℕ → ℕ → ℕ → Bool → ℕ → PacketLines
+-- what the code hands back, so told
+abbrev pub lines_told : Result ℕ LinesRefusal → ToldLines
+lines_told (Ok n) = record { number = 0; line = 0; length = n }
+lines_told (Err e) = no_lines (lines_number e)
+
+-- what is handed back
+unfoldable pub lines_end : List ℕ → ℕ → ℕ → Bool → ℕ → ToldLines
 lines_end s place now_us ok room =
     cond (eqb (lines_refusal s place now_us ok room) 0)
     (record { number = 0; line = 0; length = length (packet_text s place now_us ok) })

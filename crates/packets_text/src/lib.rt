@@ -2,4 +2,5 @@
 #![tactic(auto)]
 
 mod message;
+pub mod refusal;
 pub mod written;

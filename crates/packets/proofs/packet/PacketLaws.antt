@@ -2,7 +2,7 @@
 use mathlib.Core.Bool.{true, false, ◌&&◌}
 use mathlib.Core.List.{List, []}
 use mathlib.Core.Path.{◌≡◌, refl, sym, ◌∙◌}
-use Prim.Native.Nat.{ℕ, ◌≤◌}
+use Prim.Native.Nat.{ℕ, ◌≤◌, ◌<◌}
 use native.Mathlib.Omega.{arith}
 use lib.Dec.{eqb, ltb}
 use lib.ListN.{length, drop, drop_of_length-le}
@@ -11,12 +11,14 @@ use Rattle.laws.proofs.Cases.{choose, whichever}
 use Rattle.laws.specs.Lists.{every, some}
 use Rattle.lines.specs.Span.{part}
 use Rattle.packets.specs.Bodies.{body_built, pieces_of, first_step, looked_at}
-use Rattle.packets.specs.Header.{length_at, type_of, flags_of, size_of, body_in, header_refusal, header_of}
-use Rattle.packets.specs.Packet.{body_refusal, packet_refusal, refused_packet, packet_of, packet_at}
+use Rattle.packets.specs.Header.{length_at, type_of, flags_of, size_of, body_in, header_refusal, refused_header, header_of, ToldHeader}
+use Rattle.packets.specs.Packet.{body_refusal, packet_refusal, refused_packet, packet_of, packet_at, ToldPacket}
 use Rattle.packets.specs.Piece.{good_piece, is_long}
 use Rattle.packets.specs.declared.bodies.Looked.{Looked}
-use Rattle.packets.specs.declared.header.Header.{Header}
-use Rattle.packets.specs.declared.packet.Packet.{Packet}
+use Rattle.packets.specs.Refusal.{refusal_number}
+use Rattle.packets.specs.declared.refusal.PacketRefusal.{PacketRefusal}
+use Rattle.packets.proofs.KindLaws.{same_refusal, same_pieces, same_first}
+use Rattle.packets.proofs.RefusalLaws.{refusal_some}
 use Rattle.packets.proofs.header.LengthLaws.{Read, number_is, header_read}
 
 -- each way through a body
@@ -66,19 +68,23 @@ module _ (s : List ℕ) where
   -- its number is the refusal's
   pub packet_number : (packet_of s).number ≡ packet_refusal s
   unfolding packet_of
-  packet_number = choose (λ (p : Packet). p.number ≡ packet_refusal s) (eqb (packet_refusal s) 0) (λ z. sym (eqb-true _ _ z)) (λ _. refl)
+  packet_number = choose (λ (p : ToldPacket). p.number ≡ packet_refusal s) (eqb (packet_refusal s) 0) (λ z. sym (eqb-true _ _ z)) (λ _. refl)
 
-  pub unread : {h : Header} → h ≡ header_of s → (h.number ≡ 0 → ⊥) → refused_packet h.number ≡ packet_of s
+  pub unread : {h : ToldHeader} → h ≡ header_of s → (h.number ≡ 0 → ⊥) → refused_packet h.number ≡ packet_of s
   unread e z = let n = number_is s e in rw n (refused_by (header_first refl (λ r. z (n ∙ r))) (λ r. z (n ∙ r)))
 
-  module _ {h : Header} (e : h ≡ header_of s) (z : h.number ≡ 0) where
+  -- a header that is refused
+  pub packet_err : (e : PacketRefusal) → refused_header (refusal_number e) ≡ header_of s → refused_packet (refusal_number e) ≡ packet_of s
+  packet_err e r = unread r (refusal_some e)
+
+  module _ {h : ToldHeader} (e : h ≡ header_of s) (z : h.number ≡ 0) (k : type_of s < 16) where
     abbrev read : Read s h
     read = header_read s e z
 
     -- the body's refusal is the packet's
     module _ {n : ℕ} (r : body_refusal h.kind h.flags (part s h.from h.to) ≡ n) where
       pub refusal_is : packet_refusal s ≡ n
-      refusal_is = by_header read.refusal ∙ rw (read.kind, read.flags, read.from, read.to) at r
+      refusal_is = by_header read.refusal ∙ sym (same_refusal (type_of s) (flags_of s) (body_in s) k) ∙ rw (read.kind, read.flags, read.from, read.to) at r
 
       pub body_refused : (n ≡ 0 → ⊥) → refused_packet n ≡ packet_of s
       body_refused = refused_by refusal_is
@@ -87,7 +93,9 @@ module _ (s : List ℕ) where
         → {messages first : ℕ} → messages ≡ length (pieces_of h.kind h.flags (part s h.from h.to)) → first ≡ first_step h.kind
         → record { number = 0; length = h.to; messages = messages; first = first } ≡ packet_of s
     unfolding packet_of
-    body_taken r m f = rw (refusal_is r, m, f, read.kind, read.flags, read.from, read.to)
+    body_taken r m f =
+        let p = same_pieces (type_of s) (flags_of s) (body_in s) k in
+        rw (refusal_is r, m, f, read.kind, read.flags, read.from, read.to, p, same_first (type_of s) k)
 
 -- a place without bytes
 pub header_none : header_refusal [] ≡ 31
