@@ -10,39 +10,29 @@ use slices::bytes::{count_byte, has_byte};
 fn level_ends(pattern: &[u8], i: usize) -> bool
     ensures { result ≡ level_ends (drop i pattern.now) }
 {
-    if pattern.len() <= i {
-        return true;
+    match pattern.get(i) {
+        None => true,
+        Some(c) => *c == b'/',
     }
-    pattern[i] == b'/'
 }
 
 // `#` last and alone in its level, `+` alone in its level; an empty pattern is refused.
 pub fn validate_mqtt_wildcard(pattern: &[u8]) -> bool
     ensures { result ≡ valid_wildcards pattern.now }
 {
-    if pattern.len() == 0 {
+    if pattern.is_empty() {
         return false;
     }
     let mut fresh = true;
-    let mut i = 0;
-    while i < pattern.len() {
-        let c = pattern[i];
+    for (i, c) in pattern.iter().enumerate() {
         let next = i + 1;
-        if c == b'#' {
+        if *c == b'#' {
             return fresh && next == pattern.len();
         }
-        if c == b'+' {
-            if !fresh {
-                return false;
-            }
-            if !level_ends(pattern, next) {
-                return false;
-            }
-            fresh = false;
-        } else {
-            fresh = c == b'/';
+        if *c == b'+' && !(fresh && level_ends(pattern, next)) {
+            return false;
         }
-        i = next;
+        fresh = *c == b'/';
     }
     true
 }
@@ -53,26 +43,17 @@ pub const PATTERN_MAX: usize = 64;
 const PLUS_MAX: usize = 3;
 
 // 0, or the number that refuses the pattern: what `add_rule`, number 10 and the standard matcher's domain go by.
+#[tactic(auto, unfolding(crate::specs::Patterns::pattern_refusal))]
 pub fn pattern_refusal(pattern: &[u8]) -> u32
     ensures { result ≡ pattern_refusal pattern.now }
 {
-    if pattern.len() == 0 {
-        return 9;
+    if pattern.is_empty() || PATTERN_MAX < pattern.len() || has_byte(pattern, 0) {
+        9
+    } else if !is_utf8(pattern) {
+        36
+    } else if PLUS_MAX < count_byte(pattern, b'+') || !validate_mqtt_wildcard(pattern) {
+        9
+    } else {
+        0
     }
-    if PATTERN_MAX < pattern.len() {
-        return 9;
-    }
-    if has_byte(pattern, 0) {
-        return 9;
-    }
-    if !is_utf8(pattern) {
-        return 36;
-    }
-    if PLUS_MAX < count_byte(pattern, b'+') {
-        return 9;
-    }
-    if !validate_mqtt_wildcard(pattern) {
-        return 9;
-    }
-    0
 }
