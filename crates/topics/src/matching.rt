@@ -59,11 +59,16 @@ fn walk(topic: &[u8], pattern: &[u8], empty_last: bool) -> bool
         if pi == pattern.len() {
             return false;
         }
-        match pattern[pi] {
-            b'#' => return true,
-            b'+' => ti = find_byte(topic, ti, b'/'),
-            c if c == topic[ti] => ti += 1,
-            _ => return false,
+        let c = pattern[pi];
+        if c == b'#' {
+            return true;
+        }
+        if c == b'+' {
+            ti = find_byte(topic, ti, b'/');
+        } else if c == topic[ti] {
+            ti += 1;
+        } else {
+            return false;
         }
         pi += 1;
     }
@@ -117,9 +122,13 @@ pub fn topic_matches(topic: &[u8], pattern: &[u8]) -> bool
 pub fn standard_matches(name: &[u8], pattern: &[u8]) -> StandardMatch
     ensures { result ≡ standard_matches name.now pattern.now }
 {
-    if pattern_refusal(pattern) != 0 || name.is_empty() {
-        StandardMatch::OutsideDomain
-    } else if matches_with(name, pattern, true, true) {
+    if pattern_refusal(pattern) != 0 {
+        return StandardMatch::OutsideDomain;
+    }
+    if name.is_empty() {
+        return StandardMatch::OutsideDomain;
+    }
+    if matches_with(name, pattern, true, true) {
         StandardMatch::Yes
     } else {
         StandardMatch::No

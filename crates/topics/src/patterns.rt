@@ -1,5 +1,5 @@
 // Which patterns a rule may have (document 01, `add_rule`; 000 `validate_mqtt_wildcard` and the tests of `add_rule`).
-ghost use Rattle.std.specs.Prelude.{◌≡◌, drop};
+ghost use Rattle.std.specs.Prelude.{◌≡◌, ◌&&◌, drop};
 ghost use Rattle.topics.specs.Levels.{level_ends};
 ghost use Rattle.topics.specs.Patterns.{valid_wildcards, pattern_refusal};
 
@@ -16,6 +16,13 @@ fn level_ends(pattern: &[u8], i: usize) -> bool
     }
 }
 
+// A `+` is alone in its level, where `fresh` says that a level begins with it and `next` is the place behind it.
+fn is_alone(pattern: &[u8], next: usize, fresh: bool) -> bool
+    ensures { result ≡ (fresh && level_ends (drop next pattern.now)) }
+{
+    fresh && level_ends(pattern, next)
+}
+
 // `#` last and alone in its level, `+` alone in its level; an empty pattern is refused.
 pub fn validate_mqtt_wildcard(pattern: &[u8]) -> bool
     ensures { result ≡ valid_wildcards pattern.now }
@@ -29,7 +36,7 @@ pub fn validate_mqtt_wildcard(pattern: &[u8]) -> bool
         if *c == b'#' {
             return fresh && next == pattern.len();
         }
-        if *c == b'+' && !(fresh && level_ends(pattern, next)) {
+        if *c == b'+' && !is_alone(pattern, next, fresh) {
             return false;
         }
         fresh = *c == b'/';
@@ -42,18 +49,28 @@ pub const PATTERN_MAX: usize = 64;
 
 const PLUS_MAX: usize = 3;
 
-// 0, or the number that refuses the pattern: what `add_rule`, number 10 and the standard matcher's domain go by.
+// 0, or the number that refuses the pattern: what `add_rule`, number 10 and the standard matcher's domain go by. A test a line, as the definition has it.
 #[tactic(auto, unfolding(crate::specs::Patterns::pattern_refusal))]
 pub fn pattern_refusal(pattern: &[u8]) -> u32
     ensures { result ≡ pattern_refusal pattern.now }
 {
-    if pattern.is_empty() || PATTERN_MAX < pattern.len() || has_byte(pattern, 0) {
-        9
-    } else if !is_utf8(pattern) {
-        36
-    } else if PLUS_MAX < count_byte(pattern, b'+') || !validate_mqtt_wildcard(pattern) {
-        9
-    } else {
-        0
+    if pattern.is_empty() {
+        return 9;
     }
+    if PATTERN_MAX < pattern.len() {
+        return 9;
+    }
+    if has_byte(pattern, 0) {
+        return 9;
+    }
+    if !is_utf8(pattern) {
+        return 36;
+    }
+    if PLUS_MAX < count_byte(pattern, b'+') {
+        return 9;
+    }
+    if !validate_mqtt_wildcard(pattern) {
+        return 9;
+    }
+    0
 }

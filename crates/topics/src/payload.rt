@@ -45,6 +45,7 @@ fn streams_step(s: Streams, byte: u8) -> Streams
 }
 
 // One loop over the bytes runs all five streams.
+#[tactic(auto, unfolding(crate::specs::Payload::streams_of))]
 fn streams_of(bytes: &[u8]) -> Streams
     ensures { result ≡ streams_of bytes.now }
 {
@@ -113,6 +114,7 @@ fn le_words(words: &[u32; 8]) -> [u8; 32]
 }
 
 // The eight words, least byte first.
+#[tactic(auto, unfolding(crate::specs::Payload::word_bytes))]
 fn word_bytes(s: Streams) -> [u8; 32]
     ensures { result ≡ word_bytes s }
 {

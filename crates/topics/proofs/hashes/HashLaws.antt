@@ -1,7 +1,7 @@
 -- What proofs here and in crates above need of the hashes: each fits 32 bits, and the payload hash has 32 bytes; what the hashes of an empty and of any
 -- other text are. That the words of the payload hash are little-endian (document 01, "Hashes") is shown here too.
 -- Assumes nothing.
-use Rattle.std.proofs.Common.{◌≡◌, ℕ, ◌-◌, ◌^◌, ◌<◌, Bool, true, false, cond, leb, List, [], ◌∷◌, length, drop, replicate, refl, mod-lt, arith, pow_pos, fold}
+use Rattle.std.proofs.Common.{◌≡◌, ℕ, ◌^◌, ◌<◌, Bool, true, false, cond, leb, List, [], ◌∷◌, length, drop, replicate, refl, mod-lt, arith, pow_pos, fold}
 use Rattle.std.proofs.lemmas.List.Folds.{fold_along}
 use Rattle.topics.specs.Hashes.{fnv_step, fnv1a, djb_step, djb2, suffix_hash, client_hashes}
 use Rattle.topics.specs.Payload.{streams_of, le_bytes, word_bytes, payload_hash}

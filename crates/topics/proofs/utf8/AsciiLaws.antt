@@ -3,7 +3,7 @@ use Rattle.std.specs.Option.{unwrap_or}
 use Rattle.std.specs.List.{position_or_len}
 use Rattle.std.proofs.lemmas.List.Recursion.{is_position_or_len}
 use Rattle.laws.proofs.Lists.{position_or}
-use Rattle.std.proofs.Common.{not, nat_lt, position, ◌≡◌, ℕ, suc, ◌+◌, ◌<◌, ◌≤◌, true, false, ltb, List, [], ◌∷◌, length, get_or, drop, sym, refl, ap, ◌∙◌, arith, drop_of_length-le, ltb-true, le-ltb, lt-ltb, fold}
+use Rattle.std.proofs.Common.{not, nat_lt, position, ◌≡◌, ℕ, ltb, List, [], ◌∷◌, length, drop, sym, refl, ap, ◌∙◌, arith, ltb-true, fold}
 use Rattle.laws.proofs.Cases.{by}
 use Rattle.topics.specs.Utf8.{between, taken, is_whole, is_utf8, ascii_end}
 use Rattle.topics.specs.declared.utf8.Decoding.{Decoding}
