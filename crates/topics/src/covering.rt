@@ -30,10 +30,8 @@ fn first_cut(name: &[u8], earlier: &[u8], later: &[u8], empty_last: bool, dollar
     ensures cut { take result name.now ≡ first_cut (only_later empty_last dollar earlier.now later.now) 5 name.now }
     ensures within { result ≤ length name.now }
 {
-    let mut left: usize = 5;
-    while 0 < left {
-        left -= 1;
-        let k = name.len().saturating_sub(left);
+    for longer in 0..5 {
+        let k = name.len().saturating_sub(4 - longer);
         if only_later(&name[..k], earlier, later, empty_last, dollar) {
             return k;
         }
