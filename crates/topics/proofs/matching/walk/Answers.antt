@@ -1,11 +1,8 @@
-use Rattle.std.proofs.Common.{refl, sym, ◌∙◌, arith}
+use Rattle.std.proofs.Common.{sym, ◌∙◌, arith}
 use Rattle.laws.proofs.Lists.{tail_whole}
 use Rattle.topics.proofs.matching.MatchLaws.{slash_found, match_end, match_over, match_hash, match_plus, match_not, match_byte}
 use Rattle.topics.proofs.matching.walk.Goals.{then-c-eq43, else-c-eq43+then-c-topic}
 use Rattle.topics.proofs.matching.walk.Goals as goal
-
-pub loop-ti-init : goal.loop-ti-init
-loop-ti-init c = record { in_topic = omega arith; in_pattern = omega arith; same = refl }
 
 pub returns-then-pi-pattern : goal.returns-then-pi-pattern
 returns-then-pi-pattern c =
