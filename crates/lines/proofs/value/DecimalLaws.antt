@@ -24,6 +24,13 @@ module _ (v c high : ℕ) where
       let f = both _ _ d.0 in
       (leb-true _ _ f.0, leb-true _ _ f.1, leb-true _ _ d.1)
 
+-- more than one byte: whether there is a spare zero
+pub spare_more : (l : List ℕ) → (length l ≡ 0 → ⊥) → (length l ≡ 1 → ⊥) → not (eqb (get_or l 0 0) 48) ≡ no_spare_zero l
+unfolding no_spare_zero
+spare_more [] h g = absurd (h refl)
+spare_more (c ∷ []) h g = absurd (g refl)
+spare_more (c ∷ (d ∷ l)) h g = refl
+
 -- more digits never make a number less
 digits_grow : (v : ℕ) (l : List ℕ) → v ≤ digits_after v l
 unfolding digits_after

@@ -1,12 +1,9 @@
-use Rattle.std.proofs.Common.{sym, ◌∙◌, arith, rules}
-use Rattle.lines.proofs.value.DecimalLaws.{digit_room, reading_none, reading_next, decimal_spare, decimal_stop, decimal_low, decimal_value}
+use Rattle.std.proofs.Common.{sym, ◌∙◌, rules}
+use Rattle.lines.proofs.value.DecimalLaws.{digit_room, reading_next, decimal_spare, decimal_stop, decimal_low, decimal_value}
 use Rattle.lines.proofs.value.decimal.Goals as goal
 
 pub returns-then-not-no_spare_zero : goal.returns-then-not-no_spare_zero
 returns-then-not-no_spare_zero c = decimal_spare _ _ _ (sym c.no_spare_zero.ensures ∙ c.if-not-no_spare_zero.true)
-
-pub loop-c-init : goal.loop-c-init
-loop-c-init c = (omega arith, reading_none _)
 
 pub returns-then-not-digit_fits : goal.returns-then-not-digit_fits
 returns-then-not-digit_fits c = decimal_stop _ _ _ c.loop-c.invariant.1 c.loop-c-test.true (sym c.digit_fits.ensures ∙ c.if-not-digit_fits.true)
