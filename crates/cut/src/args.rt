@@ -9,7 +9,7 @@ use lines::value;
 use lines::value::Number;
 
 // Whether an argument is there and spells bytes, and how many: they are the first `count` of a buffer.
-#[derive(Drop)]
+#[derive(Clone, Copy, Debug, PartialEq, Eq)]
 pub struct Bytes {
     pub good: bool,
     pub count: usize,
@@ -20,16 +20,14 @@ pub fn rest(q: &[u8], k: usize) -> &[u8]
     ensures { result.now ≡ rest_of k q.now }
 {
     let mut left = q;
-    let mut more = k;
-    while 0 < more {
-        let next = after(left, b' ');
-        left = next;
-        more -= 1;
+    for _ in 0..k {
+        left = after(left, b' ');
     }
     left
 }
 
 // The field at place `k`; the name is at 0.
+#[tactic(auto, unfolding(crate::specs::Args::field_of))]
 pub fn field(q: &[u8], k: usize) -> &[u8]
     ensures { result.now ≡ field_of k q.now }
 {
@@ -37,31 +35,32 @@ pub fn field(q: &[u8], k: usize) -> &[u8]
 }
 
 // Whether `s` is a word of `words`, which has a bar between them.
+#[tactic(auto, unfolding(crate::specs::Args::is_one_of))]
 pub fn is(s: &[u8], words: &[u8]) -> bool
     ensures { result ≡ is_one_of words.now s.now }
 {
-    match value::word(words, s) {
-        Number::Value(_) => true,
-        Number::Bad => false,
-    }
+    matches!(value::word(words, s), Number::Value(_))
 }
 
 // The argument at place `k`.
+#[tactic(auto, unfolding(crate::specs::Args::arg_of))]
 pub fn arg(q: &[u8], k: usize) -> &[u8]
     ensures { result.now ≡ arg_of k q.now }
 {
     let found = field(q, k);
     if is(found, b"-") {
-        return upto(found, 0);
+        upto(found, 0)
+    } else {
+        found
     }
-    found
 }
 
 // An argument that is a number.
+#[tactic(auto, unfolding(crate::specs::Args::number_in))]
 pub fn number(q: &[u8], k: usize) -> u64
     ensures { result ≡ number_in k q.now }
 {
-    match value::decimal(arg(q, k), 0, 18446744073709551615) {
+    match value::decimal(arg(q, k), 0, u64::MAX) {
         Number::Value(n) => n,
         Number::Bad => 0,
     }
@@ -86,11 +85,11 @@ pub fn size(q: &[u8], k: usize, buf: &[u8]) -> usize
     ensures value { result ≡ size_of k q.now (length buf.now) }
     ensures counts { (result ≤ length buf.now) × (result ≡ length (take result buf.now)) }
 {
-    let n = place(q, k);
-    if n < buf.len() { n } else { buf.len() }
+    place(q, k).min(buf.len())
 }
 
 // The bytes of an argument in hex, to the beginning of `out`.
+#[tactic(auto, unfolding(crate::specs::Args::bytes_of))]
 pub fn unhex(q: &[u8], k: usize, out: &mut [u8]) -> Bytes
     ensures value { result ≡ bytes_of k q.now (length out.old) }
     ensures kept { out.new ≡ hex_into out.old (arg_of k q.now) }
@@ -103,7 +102,7 @@ pub fn unhex(q: &[u8], k: usize, out: &mut [u8]) -> Bytes
         };
     }
     Bytes {
-        good: 0 < field(q, k).len(),
+        good: !field(q, k).is_empty(),
         count: digits.len() / 2,
     }
 }

@@ -23,11 +23,7 @@ pub fn after(s: &[u8], b: u8) -> &[u8]
     ensures value { result.now ≡ drop (find_byte b s.now 0 + 1) s.now }
     ensures shorter { length result.now ≤ length s.now - 1 }
 {
-    let to = find_byte(s, 0, b);
-    if s.len() <= to {
-        return upto(s, 0);
-    }
-    let from = to + 1;
+    let from = find_byte(s, 0, b).saturating_add(1).min(s.len());
     &s[from..]
 }
 
@@ -35,8 +31,5 @@ pub fn after(s: &[u8], b: u8) -> &[u8]
 pub fn upto(s: &[u8], k: usize) -> &[u8]
     ensures { result.now ≡ take k s.now }
 {
-    if s.len() < k {
-        return s;
-    }
-    &s[..k]
+    &s[..k.min(s.len())]
 }

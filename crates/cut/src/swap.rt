@@ -3,6 +3,7 @@ ghost use Rattle.std.specs.Prelude.{◌≡◌};
 ghost use Rattle.cut.specs.Swap.{swapped, swap_first};
 
 // Another byte where it is `old`.
+#[tactic(auto, unfolding(crate::specs::Swap::swapped))]
 fn swapped(b: u8, old: u8, new: u8) -> u8
     ensures { result ≡ swapped old new b }
 {
@@ -13,9 +14,8 @@ fn swapped(b: u8, old: u8, new: u8) -> u8
 pub fn swap(s: &mut [u8], n: usize, old: u8, new: u8)
     ensures { s.new ≡ swap_first old new n s.old }
 {
-    let mut i = 0;
-    while i < n && i < s.len() {
-        s[i] = swapped(s[i], old, new);
-        i += 1;
+    let n = n.min(s.len());
+    for b in &mut s[..n] {
+        *b = swapped(*b, old, new);
     }
 }

@@ -1,8 +1,8 @@
 -- Laws of `every`, a test of each element of a list: for loops that go through a list and end at the first element that fails, and for whoever asks after one place.
 -- `d` is what is read past the list's end. Assumes nothing.
-use mathlib.Core.Bool.{Bool, true, false}
+use mathlib.Core.Bool.{Bool, true, false, ◌&&◌}
 use mathlib.Core.List.{List, [], ◌∷◌, ◌++◌}
-use mathlib.Core.Path.{◌≡◌, refl, sym, ◌∙◌}
+use mathlib.Core.Path.{◌≡◌, refl, sym, ap, ◌∙◌}
 use Prim.Native.Nat.{ℕ, zero, suc, ◌+◌, ◌≤◌, ◌<◌}
 use native.Mathlib.Numerals.{add-one}
 use native.Mathlib.Omega.{arith}
@@ -77,6 +77,12 @@ module _ {A : Type 0} (p : A → Bool) where
     first_every f =
         every_each (take n l) d
         (λ i k. let m : i < n = omega (arith, length-take n l) in rw (get_or-take n l i d m) (f i m))
+
+-- `l.iter().all(p)`
+pub every_all : {A : Type 0} (p : A → Bool) (l : List A) → every p l ≡ list_all p l
+unfolding every
+every_all p [] = refl
+every_all p (x ∷ l) = ap (λ (t : Bool). p x && t) (every_all p l)
 
 -- a loop over a list: those from `i` on all pass exactly where all do
 module _ {A : Type 0} (p : A → Bool) (l : List A) (i : ℕ) (inv : every p (drop i l) ≡ every p l) where

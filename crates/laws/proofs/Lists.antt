@@ -1,13 +1,17 @@
 -- Laws of parts of lists and of lists with one element stored, whatever the elements are; and of bytes with zeros after them. `d` is what is read past a list's end. Assumes nothing.
+use mathlib.Core.Bool.{Bool, not}
 use mathlib.Core.List.{List, [], ◌∷◌, ◌++◌}
 use mathlib.Core.Path.{◌≡◌, sym, ◌∙◌}
 use Prim.Native.Nat.{ℕ, zero, suc, ◌+◌, ◌-◌, ◌<◌, ◌≤◌, min}
 use native.Mathlib.Numerals.{add-one}
 use native.Mathlib.Omega.{arith}
-use borrow.Author.Tests.{leb-true, leb-false, eqb-true, eqb-false}
-use lib.Dec.{eqb, leb}
+use borrow.Author.Tests.{leb-true, leb-false, eqb-true, eqb-false, ltb-false}
+use lib.Dec.{eqb, leb, ltb}
 use lib.ListN.{length, take, drop, get_or, set, replicate, length-drop}
 use lib.Seq.{take_all, take-suc, append_snoc, set_at, length-take-le, get_or-set_same, get_or-set_other}
+use Rattle.std.specs.List.{position, position_or_len}
+use Rattle.std.specs.Option.{unwrap_or}
+use Rattle.std.proofs.lemmas.List.Sums.{prefix_len-le-length}
 use Rattle.laws.proofs.Cases.{by}
 
 module _ {A : Type 0} where
@@ -31,6 +35,12 @@ module _ {A : Type 0} where
   drop-replicate zero n x = let e : n - 0 ≡ n = omega arith in rw e
   drop-replicate (suc k) zero x = let e : 0 - suc k ≡ 0 = omega arith in rw e
   drop-replicate (suc k) (suc n) x = let e : suc n - suc k ≡ n - k = omega arith in rw e (drop-replicate k n x)
+
+-- the first place that passes a test, and the length for none: `s.iter().position(test).unwrap_or(s.len())`
+pub position_or : {A : Type 0} (test : A → Bool) (s : List A) → unwrap_or (position test s) (length s) ≡ position_or_len test s
+position_or test s =
+    let k = prefix_len-le-length (λ x. not (test x)) s in
+    by (ltb (position_or_len test s) (length s)) (λ e. rw e) (λ e. rw e (omega (arith, ltb-false _ _ e, k)))
 
 -- after a store
 module _ {A : Type 0} (d : A) (l : List A) (k : ℕ) (x : A) (h : k < length l) where

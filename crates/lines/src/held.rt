@@ -14,7 +14,7 @@ pub struct TraceReader<'a> {
 }
 
 // A line of a text: from its place to its LF, or to the text's end; whole where the LF is there.
-#[derive(Drop)]
+#[derive(Clone, Copy, Debug, PartialEq, Eq)]
 pub struct Span {
     pub whole: bool,
     pub from: usize,
@@ -22,21 +22,14 @@ pub struct Span {
 }
 
 // The line at `at`.
+#[tactic(auto, unfolding(crate::specs::Span::span_of))]
 pub fn span_at(text: &[u8], at: usize) -> Span
     ensures { result ≡ span_of text.now at }
 {
-    let end = text.len();
-    if end <= at {
-        return Span {
-            whole: false,
-            from: end,
-            to: end,
-        };
-    }
     let to = find_byte(text, at, b'\n');
     Span {
-        whole: to < end,
-        from: at,
+        whole: to < text.len(),
+        from: at.min(text.len()),
         to,
     }
 }

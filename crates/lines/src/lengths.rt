@@ -6,9 +6,6 @@ ghost use Rattle.lines.specs.Line.{number_line, hex_line, flag_line, word_line, 
 
 use crate::words::word_part;
 
-// The largest 64-bit number.
-const MOST: usize = 18446744073709551615;
-
 // The number of digits of `n`.
 pub fn decimal_len(n: u64) -> usize
     ensures { (result ≡ length (decimal n)) × (result ≤ 20) }
@@ -16,24 +13,17 @@ pub fn decimal_len(n: u64) -> usize
     let mut rest = n;
     let mut k = 1;
     while 9 < rest {
-        rest = rest / 10;
+        rest /= 10;
         k += 1;
     }
     k
-}
-
-// A sum, or the largest number where the sum is larger.
-fn add_capped(a: usize, b: usize) -> usize
-    ensures { result ≡ capped (a + b) }
-{
-    if a <= MOST - b { a + b } else { MOST }
 }
 
 // The length of a line with a key of `key` bytes and a value of `value` bytes.
 fn line_len(key: usize, value: usize) -> usize
     ensures { result ≡ capped (key + value + 1) }
 {
-    add_capped(add_capped(key, value), 1)
+    key.saturating_add(value).saturating_add(1)
 }
 
 // The length of a line with a number.
@@ -47,7 +37,7 @@ pub fn number_line_len(key: &[u8], n: u64) -> usize
 pub fn hex_line_len(key: &[u8], s: &[u8]) -> usize
     ensures { result ≡ capped (length (hex_line key.now s.now)) }
 {
-    line_len(key.len(), add_capped(s.len(), s.len()))
+    line_len(key.len(), s.len().saturating_add(s.len()))
 }
 
 // The length of a line with a flag, which is the same on and off.

@@ -25,11 +25,8 @@ pub fn put_bytes(out: &mut [u8], at: usize, s: &[u8]) -> usize
     ensures { Wrote out.old out.new at s.now result }
 {
     let mut p = at;
-    let mut i = 0;
-    while i < s.len() && p < out.len() {
-        out[p] = s[i];
-        p += 1;
-        i += 1;
+    for b in s {
+        p = put_byte(out, p, *b);
     }
     p
 }
@@ -42,11 +39,11 @@ pub fn put_decimal(out: &mut [u8], at: usize, n: u64) -> usize
     let mut rest = n;
     let mut i = 19;
     while 9 < rest {
-        digits[i] = 48 + (rest % 10) as u8;
-        rest = rest / 10;
+        digits[i] = b'0' + (rest % 10) as u8;
+        rest /= 10;
         i -= 1;
     }
-    digits[i] = 48 + rest as u8;
+    digits[i] = b'0' + rest as u8;
     put_bytes(out, at, &digits[i..])
 }
 
@@ -55,7 +52,7 @@ fn hex_digit(n: u8) -> u8
     requires { n < 16 }
     ensures { result ≡ hex_digit n }
 {
-    if n < 10 { 48 + n } else { 87 + n }
+    if n < 10 { b'0' + n } else { b'a' + (n - 10) }
 }
 
 // One byte in hex: two digits, the high one first.
@@ -71,10 +68,8 @@ pub fn put_hex(out: &mut [u8], at: usize, s: &[u8]) -> usize
     ensures { Wrote out.old out.new at (hex_text s.now) result }
 {
     let mut p = at;
-    let mut i = 0;
-    while i < s.len() {
-        p = put_pair(out, p, s[i]);
-        i += 1;
+    for b in s {
+        p = put_pair(out, p, *b);
     }
     p
 }
@@ -83,10 +78,7 @@ pub fn put_hex(out: &mut [u8], at: usize, s: &[u8]) -> usize
 pub fn put_flag(out: &mut [u8], at: usize, on: bool) -> usize
     ensures { Wrote out.old out.new at (flag_text on) result }
 {
-    if on {
-        return put_byte(out, at, b'1');
-    }
-    put_byte(out, at, b'0')
+    put_byte(out, at, if on { b'1' } else { b'0' })
 }
 
 // The word at place `k` of a list spelled with bars, b"allow|block"; nothing where there are not so many words.
@@ -94,9 +86,7 @@ pub fn put_word(out: &mut [u8], at: usize, words: &[u8], k: usize) -> usize
     ensures { Wrote out.old out.new at (word_text words.now k) result }
 {
     let part = word_part(words, k);
-    let from = part.from;
-    let to = part.to;
-    put_bytes(out, at, &words[from..to])
+    put_bytes(out, at, &words[part.from..part.to])
 }
 
 // The LF that ends a line.
@@ -146,7 +136,7 @@ pub fn put_word_line(out: &mut [u8], at: usize, key: &[u8], words: &[u8], k: usi
 fn put_last_digit(out: &mut [u8], at: usize, n: u64) -> usize
     ensures { Wrote out.old out.new at ((48 + n % 10) ∷ []) result }
 {
-    put_byte(out, at, 48 + (n % 10) as u8)
+    put_byte(out, at, b'0' + (n % 10) as u8)
 }
 
 // The six digits of a number below a million.

@@ -11,7 +11,7 @@ use slices::bytes::starts_with;
 // What one line gave. number: 0 read, 26 no LF before the end, 21 wrong key, 22 bad number or range, 23 bad word,
 // 24 bad hex, 25 hex too long. from..to is the value's part of the text, and next is the place after the LF.
 // Refused: value is 0, and from, to and next all stand where the line begins, or at the text's end where the place is past it.
-#[derive(Drop)]
+#[derive(Clone, Copy, Debug, PartialEq, Eq)]
 pub struct Field {
     pub number: u32,
     pub value: u64,
@@ -39,20 +39,18 @@ pub fn line_at(text: &[u8], at: usize, key: &[u8]) -> Field
     ensures within { Within text.now result }
 {
     let line = held::span_from(text, at);
-    let from = line.from;
-    let to = line.to;
     if !line.whole {
-        return refused(26, from);
+        return refused(26, line.from);
     }
-    if !starts_with(&text[from..to], key) {
-        return refused(21, from);
+    if !starts_with(&text[line.from..line.to], key) {
+        return refused(21, line.from);
     }
     Field {
         number: 0,
         value: 0,
-        from: from + key.len(),
-        to,
-        next: to + 1,
+        from: line.from + key.len(),
+        to: line.to,
+        next: line.to + 1,
     }
 }
 
@@ -63,9 +61,7 @@ fn read_as(line: Field, value: u64) -> Field
     Field {
         number: 0,
         value,
-        from: line.from,
-        to: line.to,
-        next: line.next,
+        ..line
     }
 }
 
@@ -88,9 +84,8 @@ pub fn number_field(text: &[u8], at: usize, key: &[u8], low: u64, high: u64) -> 
     if line.number != 0 {
         return line;
     }
-    let from = line.from;
-    let to = line.to;
-    answered(line, at, 22, value::decimal(&text[from..to], low, high))
+    let number = value::decimal(&text[line.from..line.to], low, high);
+    answered(line, at, 22, number)
 }
 
 // The line at `at` as one of the words `words`, by its place in that list: 23 where its value is none.
@@ -102,9 +97,8 @@ pub fn word_field(text: &[u8], at: usize, key: &[u8], words: &[u8]) -> Field
     if line.number != 0 {
         return line;
     }
-    let from = line.from;
-    let to = line.to;
-    answered(line, at, 23, value::word(words, &text[from..to]))
+    let place = value::word(words, &text[line.from..line.to]);
+    answered(line, at, 23, place)
 }
 
 // The line at `at` as hex, its bytes to the beginning of `out`: 24 or 25 where its value is none, and then `out` stays.
@@ -117,13 +111,11 @@ pub fn hex_field(text: &[u8], at: usize, key: &[u8], out: &mut [u8]) -> Field
     if line.number != 0 {
         return line;
     }
-    let from = line.from;
-    let to = line.to;
-    let number = value::hex(&text[from..to], out);
+    let number = value::hex(&text[line.from..line.to], out);
     if number != 0 {
         return refused(number, at);
     }
-    read_as(line, ((to - from) / 2) as u64)
+    read_as(line, ((line.to - line.from) / 2) as u64)
 }
 
 // The test at the end of a text: 0 at its end, 21 where one line more stands there, 26 where that line has no LF.
@@ -133,9 +125,9 @@ pub fn text_end(text: &[u8], at: usize) -> u32
     if text.len() <= at {
         return 0;
     }
-    let line = held::span_from(text, at);
-    if line.whole {
-        return 21;
+    if held::span_from(text, at).whole {
+        21
+    } else {
+        26
     }
-    26
 }

@@ -10,40 +10,34 @@ ghost use Rattle.lines.specs.ReadWord.{word_of};
 use slices::bytes::{find_byte, same_bytes};
 
 // What a value's bytes gave: the number that they spell, or none.
-#[derive(Drop)]
+#[derive(Clone, Copy, Debug, PartialEq, Eq)]
 pub enum Number {
     Value(u64),
     Bad,
 }
 
 // Whether `c` is a digit and the number with it, v * 10 + (c - 48), is at most `high`: without computing what could be too large.
+#[tactic(auto, unfolding(crate::specs::ReadDecimal::digit_fits, crate::specs::ReadDecimal::is_digit))]
 fn digit_fits(v: u64, c: u8, high: u64) -> bool
     ensures { result ≡ digit_fits v c high }
 {
-    if c < b'0' {
+    if !c.is_ascii_digit() {
         return false;
     }
-    if b'9' < c {
-        return false;
-    }
-    let d = (c - b'0') as u64;
-    if high < d {
-        return false;
-    }
-    v <= (high - d) / 10
+    let d = u64::from(c - b'0');
+    d <= high && v <= (high - d) / 10
 }
 
 // Whether `l` has a first byte that is no spare zero.
+#[tactic(auto, unfolding(crate::specs::ReadDecimal::no_spare_zero))]
 fn no_spare_zero(l: &[u8]) -> bool
     ensures { result ≡ no_spare_zero l.now }
 {
-    if l.len() == 0 {
-        return false;
+    match l {
+        [] => false,
+        [_] => true,
+        [first, ..] => *first != b'0',
     }
-    if l.len() == 1 {
-        return true;
-    }
-    l[0] != b'0'
 }
 
 // The number in low..high that `l` spells in decimal, without spare zeros. A number past `high` ends the reading, so nothing overflows however many digits there are.
@@ -53,15 +47,12 @@ pub fn decimal(l: &[u8], low: u64, high: u64) -> Number
     if !no_spare_zero(l) {
         return Number::Bad;
     }
-    let mut v: u64 = 0;
-    let mut i = 0;
-    while i < l.len() {
-        let c = l[i];
-        if !digit_fits(v, c, high) {
+    let mut v = 0;
+    for c in l {
+        if !digit_fits(v, *c, high) {
             return Number::Bad;
         }
-        v = v * 10 + ((c - b'0') as u64);
-        i += 1;
+        v = v * 10 + u64::from(*c - b'0');
     }
     if v < low {
         return Number::Bad;
@@ -89,34 +80,18 @@ pub fn word(words: &[u8], l: &[u8]) -> Number
 }
 
 // Whether `c` is a hex digit, in lower case.
+#[tactic(auto, unfolding(crate::specs::ReadHex::is_hex))]
 fn is_hex(c: u8) -> bool
     ensures { result ≡ is_hex c }
 {
-    if c < b'0' {
-        return false;
-    }
-    if c <= b'9' {
-        return true;
-    }
-    if c < b'a' {
-        return false;
-    }
-    c <= b'f'
+    matches!(c, b'0'..=b'9' | b'a'..=b'f')
 }
 
 // Whether every byte of `l` is a hex digit.
 fn all_hex(l: &[u8]) -> bool
     ensures { result ≡ every is_hex l.now }
 {
-    let mut i = 0;
-    while i < l.len() {
-        let c = l[i];
-        if !is_hex(c) {
-            return false;
-        }
-        i += 1;
-    }
-    true
+    l.iter().all(|c| is_hex(*c))
 }
 
 // Why `l` is not read as hex of at most `room` bytes: 24 for an odd count or a bad digit, then 25 for too many; 0 where it is.
@@ -136,14 +111,12 @@ fn hex_refusal(l: &[u8], room: usize) -> u32
 }
 
 // The number of a hex digit.
+#[tactic(auto, unfolding(crate::specs::ReadHex::is_hex))]
 fn hex_value(c: u8) -> u8
     requires { is_hex c ≡ true }
     ensures { (result ≡ hex_value c) × (result < 16) }
 {
-    if c < 58 {
-        return c - 48;
-    }
-    c - 87
+    if c <= b'9' { c - b'0' } else { c - b'a' + 10 }
 }
 
 // The bytes that the hex digits of `l` spell, two for each, to the beginning of `out`.
@@ -151,13 +124,8 @@ fn put_unhex(l: &[u8], out: &mut [u8])
     requires { hex_refusal (length out.old) l.now ≡ 0 }
     ensures { out.new ≡ sets out.old 0 (unhex l.now) }
 {
-    let count = l.len() / 2;
-    let mut i = 0;
-    while i < count {
-        let high = hex_value(l[i * 2]);
-        let low = hex_value(l[i * 2 + 1]);
-        out[i] = high * 16 + low;
-        i += 1;
+    for i in 0..l.len() / 2 {
+        out[i] = hex_value(l[i * 2]) * 16 + hex_value(l[i * 2 + 1]);
     }
 }
 

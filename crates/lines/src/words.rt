@@ -6,7 +6,7 @@ ghost use Rattle.lines.specs.Part.{PartIs};
 use slices::bytes::find_byte;
 
 // The part of a text from `from` up to `to`.
-#[derive(Drop)]
+#[derive(Clone, Copy, Debug, PartialEq, Eq)]
 pub struct Part {
     pub from: usize,
     pub to: usize,
@@ -17,18 +17,15 @@ fn word_from(words: &[u8], k: usize) -> usize
     ensures { (result ≤ length words.now) × (first_word (drop result words.now) ≡ word_text words.now k) }
 {
     let mut left = k;
-    let mut i = 0;
-    while i < words.len() {
+    for (i, c) in words.iter().enumerate() {
         if left == 0 {
             return i;
         }
-        let c = words[i];
-        i += 1;
-        if c == b'|' {
+        if *c == b'|' {
             left -= 1;
         }
     }
-    i
+    words.len()
 }
 
 // The part of the list that is the word at place `k`; an empty one where there are not so many words.
@@ -37,7 +34,7 @@ pub fn word_part(words: &[u8], k: usize) -> Part
 {
     let from = word_from(words, k);
     Part {
-        from: from,
+        from,
         to: find_byte(words, from, b'|'),
     }
 }

@@ -2,16 +2,16 @@
 ghost use Rattle.std.specs.Prelude.{◌≡◌, ◌≤◌, ◌-◌, ◌++◌, length, take, replicate};
 ghost use Rattle.slices.specs.Bytes.{same, begins, has, count_of, to_byte, place_in, find_byte};
 
-#[tactic(auto, using(crate::proofs::bytes::StdLaws::same_eq))]
 // Equal bytes, equally many.
+#[tactic(auto, using(crate::proofs::bytes::StdLaws::same_eq))]
 pub fn same_bytes(a: &[u8], b: &[u8]) -> bool
     ensures { result ≡ same a.now b.now }
 {
     a == b
 }
 
-#[tactic(auto, using(crate::proofs::bytes::StdLaws::begins_starts))]
 // Whether `s` begins with `key`.
+#[tactic(auto, using(crate::proofs::bytes::StdLaws::begins_starts))]
 pub fn starts_with(s: &[u8], key: &[u8]) -> bool
     ensures { result ≡ begins key.now s.now }
 {
@@ -25,8 +25,8 @@ pub fn has_byte(s: &[u8], c: u8) -> bool
     s.iter().any(|b| *b == c)
 }
 
-#[tactic(auto, using(crate::proofs::bytes::StdLaws::count_by_of))]
 // How often the byte `c` stands in `s`.
+#[tactic(auto, using(crate::proofs::bytes::StdLaws::count_by_of))]
 pub fn count_byte(s: &[u8], c: u8) -> usize
     ensures { result ≡ count_of c s.now }
 {

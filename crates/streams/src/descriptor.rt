@@ -13,7 +13,7 @@ use std_io::io::last_error;
 const BELOW_A_FILE: &str = "/dev/null/none";
 
 // How the read that comes next will end, where it is known by now.
-#[derive(Clone, Copy)]
+#[derive(Clone, Copy, Debug, PartialEq, Eq)]
 enum Next {
     Unknown,
     Ended,

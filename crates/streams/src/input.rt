@@ -18,18 +18,11 @@ pub fn read_all<R: Read>(from: &mut R, buf: &mut [u8]) -> Done
             return Done::Failed(turn::EIO);
         }
         left -= 1;
-        let turn = read_once(from, &mut buf[n..]);
-        match turn {
+        match read_once(from, &mut buf[n..]) {
             Turn::Failed(error) => return Done::Failed(error),
-            Turn::Again => {
-                yield_now();
-            }
-            Turn::Moved(more) => {
-                if more == 0 {
-                    return Done::Bytes(n);
-                }
-                n += more;
-            }
+            Turn::Again => yield_now(),
+            Turn::Moved(0) => return Done::Bytes(n),
+            Turn::Moved(more) => n += more,
         }
     }
     Done::Bytes(n)

@@ -18,18 +18,11 @@ pub fn write_all<W: Write>(to: &mut W, buf: &[u8]) -> Done
             return Done::Failed(turn::EIO);
         }
         left -= 1;
-        let turn = write_once(to, &buf[n..]);
-        match turn {
+        match write_once(to, &buf[n..]) {
             Turn::Failed(error) => return Done::Failed(error),
-            Turn::Again => {
-                yield_now();
-            }
-            Turn::Moved(more) => {
-                if more == 0 {
-                    return Done::Failed(turn::EIO);
-                }
-                n += more;
-            }
+            Turn::Again => yield_now(),
+            Turn::Moved(0) => return Done::Failed(turn::EIO),
+            Turn::Moved(more) => n += more,
         }
     }
     Done::Bytes(n)

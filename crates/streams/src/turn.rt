@@ -5,7 +5,7 @@ ghost use Rattle.streams.specs.Turns.{turn_of, missed_of, Fits};
 use std::io::{Error, Result};
 
 // The call moved so many bytes; or it did nothing this time, and is to be made again; or it failed, with errno.
-#[derive(Clone, Copy)]
+#[derive(Clone, Copy, Debug, PartialEq, Eq)]
 pub enum Turn {
     Moved(usize),
     Again,
@@ -13,7 +13,7 @@ pub enum Turn {
 }
 
 // How a whole input or output went: so many bytes and all of them, or it failed on the way, with errno.
-#[derive(Clone, Copy)]
+#[derive(Clone, Copy, Debug, PartialEq, Eq)]
 pub enum Done {
     Bytes(usize),
     Failed(i32),
@@ -42,24 +42,19 @@ pub fn came_to(got: isize, error: i32, buf: &[u8]) -> Turn
 }
 
 // A call that moved nothing: whether it is to be made again.
+#[tactic(auto, using(crate::proofs::turn::TurnLaws::missed_interrupted, crate::proofs::turn::TurnLaws::missed_blocked, crate::proofs::turn::TurnLaws::missed_failed))]
 fn missed(error: i32) -> Turn
     ensures { result ≡ missed_of error }
 {
-    if error == EINTR {
-        return Turn::Again;
+    match error {
+        EINTR | EAGAIN => Turn::Again,
+        _ => Turn::Failed(error),
     }
-    if error == EAGAIN {
-        return Turn::Again;
-    }
-    Turn::Failed(error)
 }
 
 // The errno that std's error holds.
 pub(crate) fn errno(error: &Error) -> i32 {
-    match error.raw_os_error() {
-        Some(code) => code,
-        None => EIO,
-    }
+    error.raw_os_error().unwrap_or(EIO)
 }
 
 // What std's answer to a call on `buf` means.

@@ -9,16 +9,10 @@ use std::rt::Env;
 pub fn word_at<R: Env>(rt: &R, k: usize, word: &mut [u8]) -> usize
     ensures { IsPrefixLen result word.new }
 {
-    match rt.arg(k, word) {
-        Ok(n) => n,
-        Err(_) => 0,
-    }
+    rt.arg(k, word).unwrap_or(0)
 }
 
 // Whether there is a word at place `k`.
 pub fn is_there<R: Env>(rt: &R, k: usize) -> bool {
-    match rt.arg(k, &mut []) {
-        Err(FillError::NotPresent) => false,
-        _ => true,
-    }
+    !matches!(rt.arg(k, &mut []), Err(FillError::NotPresent))
 }

@@ -1,8 +1,7 @@
 -- Document 01, "Hashes": the payload hash is 32 zero bytes for no data, else eight little-endian words as in source document 001 (`compute_payload_hash`):
 -- five streams run over the bytes, and the words mix them.
 -- Assumes nothing.
-use Rattle.std.specs.Prelude.{ℕ, ◌+◌, ◌-◌, ◌*◌, ◌/◌, ◌%◌, ◌^◌, List, [], ◌∷◌, ◌++◌, length, replicate, bit_xor}
-use mathlib.Core.List.{foldl}
+use Rattle.std.specs.Prelude.{ℕ, ◌+◌, ◌-◌, ◌*◌, ◌/◌, ◌%◌, ◌^◌, List, [], ◌∷◌, ◌++◌, length, replicate, bit_xor, fold}
 use Rattle.topics.specs.Hashes.{times, fnv_step}
 use Rattle.topics.specs.declared.payload.Streams.{Streams}
 
@@ -34,7 +33,7 @@ streams_step s b =
 
 -- the streams after all bytes
 unfoldable pub streams_of : List ℕ → Streams
-streams_of d = foldl streams_step (streams_start (length d)) d
+streams_of d = fold streams_step (streams_start (length d)) d
 
 -- words 1, 3 and 7 are the streams h1, h3 and h7 themselves; the other five mix. Word 2: h1 and h9
 unfoldable pub word2 : Streams → ℕ

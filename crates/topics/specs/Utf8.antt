@@ -2,8 +2,7 @@
 -- together from its bytes. Refused: a byte out of place; a number with more bytes than it needs; a surrogate, or a number above 10FFFF; a character that is cut off.
 -- That a string passes exactly where it is written as section 3 writes scalar values is claimed in Encoding.antt. U+0000 passes: who refuses it asks for a zero byte.
 -- Assumes nothing.
-use Rattle.std.specs.Prelude.{ℕ, suc, ◌+◌, ◌-◌, ◌*◌, Bool, true, false, cond, ◌&&◌, ◌||◌, List, [], ◌∷◌, ◌==◌, nat_le, nat_lt}
-use mathlib.Core.List.{foldl}
+use Rattle.std.specs.Prelude.{ℕ, suc, ◌+◌, ◌-◌, ◌*◌, Bool, true, false, cond, ◌&&◌, ◌||◌, List, [], ◌∷◌, ◌==◌, nat_le, nat_lt, fold}
 use Rattle.topics.specs.declared.utf8.Decoding.{Decoding}
 
 -- a scalar value: any number up to 10FFFF but the surrogates, D800 to DFFF
@@ -63,7 +62,7 @@ is_whole d = d.fine && d.left == 0
 
 -- the bytes are UTF-8
 unfoldable pub is_utf8 : List ℕ → Bool
-is_utf8 s = is_whole (foldl taken between s)
+is_utf8 s = is_whole (fold taken between s)
 
 -- how many bytes stand before the first that is not ASCII, where the code begins to decode
 unfoldable pub ascii_end : List ℕ → ℕ

@@ -1,40 +1,28 @@
 // Does an earlier pattern match every name that a later one matches (request C-20)? A few names of the later one, tried with the matcher, decide it: specs/Covering.antt says which, and
 // specs/Covered.antt that they are enough.
-ghost use Rattle.std.specs.Prelude.{◌≡◌, ◌-◌, ◌≤◌, min, length, take, if◌then◌else◌, nat_eq};
+ghost use Rattle.std.specs.Prelude.{◌≡◌, ◌-◌, ◌≤◌, length, take, if◌then◌else◌, nat_eq};
 ghost use Rattle.std.proofs.lemmas.List.Edits.{sets};
 ghost use Rattle.topics.specs.Covering.{only_later, sample, first_cut, tried_with, witness, covers, as_witness};
 
 use crate::matching::matches_with;
 use crate::patterns::PATTERN_MAX;
+use slices::bytes::padded;
 
 // A name that only the later of two patterns matches, zeros after it; `len` is 0 where there is none.
-#[derive(Drop)]
+#[derive(Clone, Copy, Debug, PartialEq, Eq)]
 pub struct Witness {
     pub name: [u8; 128],
     pub len: usize,
 }
 
 // Only the later pattern matches a topic.
+#[tactic(auto, unfolding(crate::specs::Covering::only_later))]
 fn only_later(topic: &[u8], earlier: &[u8], later: &[u8], empty_last: bool, dollar: bool) -> bool
     ensures { result ≡ only_later empty_last dollar earlier.now later.now topic.now }
 {
-    if topic.len() == 0 {
-        return false;
-    }
-    if !matches_with(topic, later, empty_last, dollar) {
-        return false;
-    }
-    !matches_with(topic, earlier, empty_last, dollar)
-}
-
-// How long a name is without its last bytes.
-fn shorter(len: usize, by: usize) -> usize
-    ensures { result ≡ len - by }
-{
-    if len < by {
-        return 0;
-    }
-    len - by
+    !topic.is_empty()
+        && matches_with(topic, later, empty_last, dollar)
+        && !matches_with(topic, earlier, empty_last, dollar)
 }
 
 // How long the first of a name's five tries is that only the later pattern matches; 0 for none. The shortest comes first.
@@ -42,10 +30,8 @@ fn first_cut(name: &[u8], earlier: &[u8], later: &[u8], empty_last: bool, dollar
     ensures cut { take result name.now ≡ first_cut (only_later empty_last dollar earlier.now later.now) 5 name.now }
     ensures within { result ≤ length name.now }
 {
-    let mut left: usize = 5;
-    while 0 < left {
-        left -= 1;
-        let k = shorter(name.len(), left);
+    for longer in 0..5 {
+        let k = name.len().saturating_sub(4 - longer);
         if only_later(&name[..k], earlier, later, empty_last, dollar) {
             return k;
         }
@@ -57,10 +43,7 @@ fn first_cut(name: &[u8], earlier: &[u8], later: &[u8], empty_last: bool, dollar
 fn sampled(c: u8, letter: u8) -> u8
     ensures { result ≡ (if nat_eq c 43 then letter else c) }
 {
-    if c == b'+' {
-        return letter;
-    }
-    c
+    if c == b'+' { letter } else { c }
 }
 
 // The longest name to try, put at the beginning of a buffer: its length.
@@ -69,47 +52,26 @@ fn put_sample(pattern: &[u8], letter: u8, out: &mut [u8; 128]) -> usize
     ensures count { result ≡ length (sample letter pattern.now) }
     ensures bytes { out.new ≡ sets out.old 0 (sample letter pattern.now) }
 {
-    let mut i = 0;
-    while i < pattern.len() {
-        let c = pattern[i];
-        let next = i + 1;
-        if c == b'#' {
-            let last = i + 2;
+    for (i, c) in pattern.iter().enumerate() {
+        if *c == b'#' {
             out[i] = letter;
-            out[next] = b'/';
-            out[last] = letter;
+            out[i + 1] = b'/';
+            out[i + 2] = letter;
             return i + 3;
         }
-        out[i] = sampled(c, letter);
-        i = next;
+        out[i] = sampled(*c, letter);
     }
-    i
-}
-
-// How many bytes of a pattern are looked at: all that an accepted one has.
-fn looked_at(len: usize) -> usize
-    ensures { result ≡ min len 64 }
-{
-    if len < PATTERN_MAX {
-        return len;
-    }
-    PATTERN_MAX
+    pattern.len()
 }
 
 // A name as it is handed back.
+#[tactic(auto, unfolding(crate::specs::Covering::as_witness))]
 fn as_witness(name: &[u8]) -> Witness
-    requires { length name.now ≤ 128 }
     ensures { result ≡ as_witness name.now }
 {
-    let mut bytes = [0u8; 128];
-    let mut i = 0;
-    while i < name.len() {
-        bytes[i] = name[i];
-        i += 1;
-    }
     Witness {
-        name: bytes,
-        len: i,
+        name: padded(name),
+        len: name.len(),
     }
 }
 
@@ -117,7 +79,7 @@ fn as_witness(name: &[u8]) -> Witness
 fn tried_with(letter: u8, earlier: &[u8], later: &[u8], empty_last: bool, dollar: bool) -> Witness
     ensures { result ≡ as_witness (tried_with letter empty_last dollar earlier.now later.now) }
 {
-    let n = looked_at(later.len());
+    let n = later.len().min(PATTERN_MAX);
     let mut bytes = [0u8; 128];
     let len = put_sample(&later[..n], letter, &mut bytes);
     let k = first_cut(&bytes[..len], earlier, later, empty_last, dollar);

@@ -15,64 +15,41 @@ pub enum Matching {
 }
 
 // What the standard matcher answers.
-#[derive(Drop)]
+#[derive(Clone, Copy, Debug, PartialEq, Eq)]
 pub enum StandardMatch {
     Yes,
     No,
     OutsideDomain,
 }
 
-// The rest of the pattern takes no further byte.
-fn takes_none(pattern: &[u8], at: usize) -> bool
-    requires { at ≤ length pattern.now }
-    ensures { result ≡ takes_none (drop at pattern.now) }
+// The rest of a pattern takes no further byte.
+#[tactic(auto, unfolding(crate::specs::Matching::takes_none))]
+fn takes_none(rest: &[u8]) -> bool
+    ensures { result ≡ takes_none rest.now }
 {
-    if at == pattern.len() {
-        return true;
-    }
-    let next = at + 1;
-    let c = pattern[at];
-    if c == b'#' {
-        return true;
-    }
-    if c != b'/' {
-        return false;
-    }
-    if next == pattern.len() {
-        return false;
-    }
-    pattern[next] == b'#'
+    matches!(rest, [] | [b'#', ..] | [b'/', b'#', ..])
 }
 
-// Behind a `+` that takes the empty level at the topic's end, where it does.
-fn past_plus(pattern: &[u8], at: usize, empty_last: bool) -> usize
-    requires { at ≤ length pattern.now }
-    ensures rest { takes_none (drop result pattern.now) ≡ takes_end empty_last (drop at pattern.now) }
-    ensures within { result ≤ length pattern.now }
+// The rest of a pattern behind a `+` that takes the empty level at the topic's end, where it does.
+#[tactic(auto, unfolding(crate::specs::Matching::takes_end))]
+fn past_plus(rest: &[u8], empty_last: bool) -> &[u8]
+    ensures { takes_none result.now ≡ takes_end empty_last rest.now }
 {
-    if !empty_last {
-        return at;
+    match rest {
+        [b'+', after @ ..] if empty_last => after,
+        _ => rest,
     }
-    if at == pattern.len() {
-        return at;
-    }
-    if pattern[at] != b'+' {
-        return at;
-    }
-    at + 1
 }
 
 // The rest of the pattern at the topic's end. `takes_none` is asked in one place: a second would make the whole matcher too long to stand in a loop over rules.
-fn takes_end(pattern: &[u8], at: usize, empty_last: bool) -> bool
-    requires { at ≤ length pattern.now }
-    ensures { result ≡ takes_end empty_last (drop at pattern.now) }
+fn takes_end(rest: &[u8], empty_last: bool) -> bool
+    ensures { result ≡ takes_end empty_last rest.now }
 {
-    let from = past_plus(pattern, at, empty_last);
-    takes_none(pattern, from)
+    takes_none(past_plus(rest, empty_last))
 }
 
 // The walk over both: `#` takes the rest, `+` goes to the end of the topic's level, any other byte takes an equal one; at the topic's end `takes_end` decides.
-// The Rust looks ahead after a `+`; the next turns answer the same.
+// The Rust looks ahead after a `+`; the next turns answer the same. Two places that move apart: a chain is no plainer.
 fn walk(topic: &[u8], pattern: &[u8], empty_last: bool) -> bool
     ensures { result ≡ match_bytes empty_last topic.now pattern.now }
 {
@@ -83,69 +60,47 @@ fn walk(topic: &[u8], pattern: &[u8], empty_last: bool) -> bool
             return false;
         }
         let c = pattern[pi];
-        let next = pi + 1;
         if c == b'#' {
             return true;
         }
         if c == b'+' {
             ti = find_byte(topic, ti, b'/');
-            pi = next;
-        } else {
-            if c != topic[ti] {
-                return false;
-            }
+        } else if c == topic[ti] {
             ti += 1;
-            pi = next;
+        } else {
+            return false;
         }
+        pi += 1;
     }
-    takes_end(pattern, pi, empty_last)
+    takes_end(&pattern[pi..], empty_last)
 }
 
 // A pattern that begins with a wildcard.
 fn starts_wild(pattern: &[u8]) -> bool
     ensures { result ≡ starts_wild pattern.now }
 {
-    if pattern.len() == 0 {
-        return false;
-    }
-    let c = pattern[0];
-    if c == b'#' {
-        return true;
-    }
-    c == b'+'
+    matches!(pattern, [b'#' | b'+', ..])
 }
 
 // A name that MQTT 3.1.1 section 4.7.2 keeps apart from a pattern, where that is asked.
 fn kept_apart(topic: &[u8], pattern: &[u8], dollar: bool) -> bool
     ensures { result ≡ (dollar && dollar_apart topic.now pattern.now) }
 {
-    if !dollar {
-        return false;
-    }
-    if !starts_with_dollar(topic) {
-        return false;
-    }
-    starts_wild(pattern)
+    dollar && starts_with_dollar(topic) && starts_wild(pattern)
 }
 
 // A topic under a pattern, by both flags: the crates above choose them. The walk comes first: of many rules most end it at once, and then nothing is asked of dollars.
 pub fn matches_with(topic: &[u8], pattern: &[u8], empty_last: bool, dollar: bool) -> bool
     ensures { result ≡ matches_with empty_last dollar topic.now pattern.now }
 {
-    if !walk(topic, pattern, empty_last) {
-        return false;
-    }
-    !kept_apart(topic, pattern, dollar)
+    walk(topic, pattern, empty_last) && !kept_apart(topic, pattern, dollar)
 }
 
 // Both flags of a choice.
 pub fn is_standard(matching: Matching) -> bool
     ensures { result ≡ is_standard matching }
 {
-    match matching {
-        Matching::Port => false,
-        Matching::Standard => true,
-    }
+    matching == Matching::Standard
 }
 
 // A topic under a rule's pattern, by the matcher that was chosen for the rules.
@@ -171,7 +126,7 @@ pub fn standard_matches(name: &[u8], pattern: &[u8]) -> StandardMatch
     if check_pattern(pattern).is_err() {
         return StandardMatch::OutsideDomain;
     }
-    if name.len() == 0 {
+    if name.is_empty() {
         return StandardMatch::OutsideDomain;
     }
     if matches_with(name, pattern, true, true) {

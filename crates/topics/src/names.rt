@@ -2,54 +2,32 @@
 ghost use Rattle.std.specs.Prelude.{◌≡◌, [], ◌∷◌};
 ghost use Rattle.topics.specs.Names.{is_broad, starts_with_dollar, bad_publish};
 
-use slices::bytes::same_bytes;
-
+#[tactic(auto, unfolding(slices::specs::Bytes::same))]
 // A Subscribe to one of these three takes a whole broker.
 pub fn is_broad_wildcard_subscribe(topic: &[u8]) -> bool
     ensures { result ≡ is_broad topic.now }
 {
-    if same_bytes(b"#", topic) {
-        return true;
-    }
-    if same_bytes(b"+", topic) {
-        return true;
-    }
-    same_bytes(b"+/#", topic)
+    matches!(topic, b"#" | b"+" | b"+/#")
 }
 
 // MQTT 3.1.1 section 4.7.2 keeps such names for the broker.
 pub fn starts_with_dollar(topic: &[u8]) -> bool
     ensures { result ≡ starts_with_dollar topic.now }
 {
-    if topic.len() == 0 {
-        return false;
-    }
-    topic[0] == b'$'
+    matches!(topic, [b'$', ..])
 }
 
+#[tactic(auto, using(crate::proofs::names::NameLaws::bad_one))]
 // A byte that no Publish may carry.
 fn is_bad_byte(b: u8) -> bool
     ensures { result ≡ bad_publish (b ∷ []) }
 {
-    if b == 0 {
-        return true;
-    }
-    if b == b'+' {
-        return true;
-    }
-    b == b'#'
+    matches!(b, 0 | b'+' | b'#')
 }
 
 // A Publish of such a topic is refused.
 pub fn contains_invalid_publish_char(topic: &[u8]) -> bool
     ensures { result ≡ bad_publish topic.now }
 {
-    let mut i = 0;
-    while i < topic.len() {
-        if is_bad_byte(topic[i]) {
-            return true;
-        }
-        i += 1;
-    }
-    false
+    topic.iter().any(|b| is_bad_byte(*b))
 }

@@ -1,5 +1,5 @@
 // Which patterns a rule may have (document 01, `add_rule`; 000 `validate_mqtt_wildcard` and the tests of `add_rule`).
-ghost use Rattle.std.specs.Prelude.{◌≡◌, drop};
+ghost use Rattle.std.specs.Prelude.{◌≡◌, ◌&&◌, drop};
 ghost use Rattle.topics.specs.Levels.{level_ends};
 ghost use Rattle.laws.specs.Refusals.{refusal};
 ghost use Rattle.topics.specs.Patterns.{valid_wildcards, pattern_refusal, pattern_number};
@@ -11,39 +11,36 @@ use slices::bytes::{count_byte, has_byte};
 fn level_ends(pattern: &[u8], i: usize) -> bool
     ensures { result ≡ level_ends (drop i pattern.now) }
 {
-    if pattern.len() <= i {
-        return true;
+    match pattern.get(i) {
+        None => true,
+        Some(c) => *c == b'/',
     }
-    pattern[i] == b'/'
+}
+
+// A `+` is alone in its level, where `fresh` says that a level begins with it and `next` is the place behind it.
+fn is_alone(pattern: &[u8], next: usize, fresh: bool) -> bool
+    ensures { result ≡ (fresh && level_ends (drop next pattern.now)) }
+{
+    fresh && level_ends(pattern, next)
 }
 
 // `#` last and alone in its level, `+` alone in its level; an empty pattern is refused.
 pub fn validate_mqtt_wildcard(pattern: &[u8]) -> bool
     ensures { result ≡ valid_wildcards pattern.now }
 {
-    if pattern.len() == 0 {
+    if pattern.is_empty() {
         return false;
     }
     let mut fresh = true;
-    let mut i = 0;
-    while i < pattern.len() {
-        let c = pattern[i];
+    for (i, c) in pattern.iter().enumerate() {
         let next = i + 1;
-        if c == b'#' {
+        if *c == b'#' {
             return fresh && next == pattern.len();
         }
-        if c == b'+' {
-            if !fresh {
-                return false;
-            }
-            if !level_ends(pattern, next) {
-                return false;
-            }
-            fresh = false;
-        } else {
-            fresh = c == b'/';
+        if *c == b'+' && !is_alone(pattern, next, fresh) {
+            return false;
         }
-        i = next;
+        fresh = *c == b'/';
     }
     true
 }
@@ -78,7 +75,7 @@ impl PatternRefusal {
 pub fn check_pattern(pattern: &[u8]) -> Result<(), PatternRefusal>
     ensures { refusal pattern_number result ≡ pattern_refusal pattern.now }
 {
-    if pattern.len() == 0 {
+    if pattern.is_empty() {
         return Err(PatternRefusal::BadPattern);
     }
     if PATTERN_MAX < pattern.len() {

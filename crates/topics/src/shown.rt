@@ -8,16 +8,7 @@ use crate::utf8::is_utf8;
 fn is_fine(before: u8, b: u8) -> bool
     ensures { result ≡ fine before b }
 {
-    if b < 32 {
-        return false;
-    }
-    if b == 127 {
-        return false;
-    }
-    if before == 194 {
-        return 160 <= b;
-    }
-    true
+    32 <= b && b != 127 && !(before == 194 && b < 160)
 }
 
 // No control character is among the bytes of a UTF-8 text.
@@ -25,40 +16,30 @@ fn all_fine(s: &[u8]) -> bool
     ensures { result ≡ fine_after 0 s.now }
 {
     let mut before = 0;
-    let mut i = 0;
-    while i < s.len() {
-        let b = s[i];
-        if !is_fine(before, b) {
+    for b in s {
+        if !is_fine(before, *b) {
             return false;
         }
-        before = b;
-        i += 1;
+        before = *b;
     }
     true
 }
 
 // Whether a text can be shown as it is: it is UTF-8, and no control character is in it.
+#[tactic(auto, unfolding(crate::specs::Shown::readable))]
 pub fn is_readable(s: &[u8]) -> bool
     ensures { result ≡ readable s.now }
 {
-    if !is_utf8(s) {
-        return false;
-    }
-    all_fine(s)
+    is_utf8(s) && all_fine(s)
 }
 
 // A byte as it is shown, of a text that can be shown as it is or not.
 pub fn shown_byte(whole: bool, b: u8) -> u8
     ensures { result ≡ shown_byte whole b }
 {
-    if whole {
-        return b;
+    if whole || matches!(b, 32..=126) {
+        b
+    } else {
+        b'.'
     }
-    if b < 32 {
-        return b'.';
-    }
-    if 126 < b {
-        return b'.';
-    }
-    b
 }

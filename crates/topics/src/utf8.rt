@@ -4,7 +4,7 @@ ghost use Rattle.topics.specs.Utf8.{is_scalar, broken, between, inside, begun, c
 
 // Where a decoder stands: inside a character, `left` bytes of which are to come, `value` being its number so far and `least` the least number that needs so
 // many bytes; between two characters, with `left` 0; or past a byte that is no UTF-8, not `fine`.
-#[derive(Drop)]
+#[derive(Clone, Copy, Debug, PartialEq, Eq)]
 pub struct Decoding {
     pub fine: bool,
     pub left: u8,
@@ -46,64 +46,47 @@ fn inside(left: u8, value: u32, least: u32) -> Decoding
 }
 
 // A character's first byte.
+#[tactic(auto, unfolding(crate::specs::Utf8::begun))]
 fn begin(b: u8) -> Decoding
     ensures { result ≡ begun b }
 {
-    if b < 0x80 {
-        return between();
+    match b {
+        0..=0x7F => between(),
+        0xC0..=0xDF => inside(1, u32::from(b - 0xC0), 0x80),
+        0xE0..=0xEF => inside(2, u32::from(b - 0xE0), 0x800),
+        0xF0..=0xF7 => inside(3, u32::from(b - 0xF0), 0x1_0000),
+        _ => broken(),
     }
-    if b < 0xC0 {
-        return broken();
-    }
-    if b < 0xE0 {
-        return inside(1, (b - 0xC0) as u32, 0x80);
-    }
-    if b < 0xF0 {
-        return inside(2, (b - 0xE0) as u32, 0x800);
-    }
-    if b < 0xF8 {
-        return inside(3, (b - 0xF0) as u32, 0x1_0000);
-    }
-    broken()
 }
 
 // A number that a character may have.
 fn is_scalar(v: u32) -> bool
     ensures { result ≡ is_scalar v }
 {
-    if v <= 0xD7FF {
-        return true;
-    }
-    if v < 0xE000 {
-        return false;
-    }
-    v <= 0x10_FFFF
+    matches!(v, 0..=0xD7FF | 0xE000..=0x10_FFFF)
 }
 
 // A character all of whose bytes are there.
+#[tactic(auto, unfolding(crate::specs::Utf8::ended))]
 fn end(value: u32, least: u32) -> Decoding
     ensures { result ≡ ended value least }
 {
-    if value < least {
-        return broken();
+    if least <= value && is_scalar(value) {
+        between()
+    } else {
+        broken()
     }
-    if is_scalar(value) {
-        return between();
-    }
-    broken()
 }
 
 // A byte that continues a character.
 fn continues(b: u8) -> bool
     ensures { result ≡ continues b }
 {
-    if b < 0x80 {
-        return false;
-    }
-    b < 0xC0
+    matches!(b, 0x80..=0xBF)
 }
 
 // A character's next byte. A number has at most 15 bits before its last six.
+#[tactic(auto, unfolding(crate::specs::Utf8::added))]
 fn add(d: Decoding, b: u8) -> Decoding
     requires { d.value < 0x8000 }
     ensures { result ≡ added d b }
@@ -111,36 +94,37 @@ fn add(d: Decoding, b: u8) -> Decoding
     if !continues(b) {
         return broken();
     }
-    let value = d.value * 64 + (b - 0x80) as u32;
+    let value = d.value * 64 + u32::from(b - 0x80);
     if 1 < d.left {
-        return inside(d.left - 1, value, d.least);
+        inside(d.left - 1, value, d.least)
+    } else {
+        end(value, d.least)
     }
-    end(value, d.least)
 }
 
 // One byte more.
+#[tactic(auto, unfolding(crate::specs::Utf8::taken))]
 fn take(d: Decoding, b: u8) -> Decoding
     requires { d.value < 0x8000 }
     ensures { result ≡ taken d b }
 {
     if !d.fine {
-        return broken();
+        broken()
+    } else if d.left == 0 {
+        begin(b)
+    } else {
+        add(d, b)
     }
-    if d.left == 0 {
-        return begin(b);
-    }
-    add(d, b)
 }
 
 // The same as `is_utf8`, which passes over ASCII first.
+#[tactic(auto, unfolding(crate::specs::Utf8::is_utf8))]
 fn decodes(s: &[u8]) -> bool
     ensures { result ≡ is_utf8 s.now }
 {
     let mut d = between();
-    let mut i = 0;
-    while i < s.len() {
-        d = take(d, s[i]);
-        i += 1;
+    for b in s {
+        d = take(d, *b);
     }
     d.fine && d.left == 0
 }
@@ -150,14 +134,7 @@ fn ascii_end(s: &[u8]) -> usize
     ensures value { result ≡ ascii_end s.now }
     ensures within { result ≤ length s.now }
 {
-    let mut i = 0;
-    while i < s.len() {
-        if 0x80 <= s[i] {
-            return i;
-        }
-        i += 1;
-    }
-    s.len()
+    s.iter().position(|b| !b.is_ascii()).unwrap_or(s.len())
 }
 
 // Whether the bytes are UTF-8: well formed, no overlong form, no surrogate, nothing above 10FFFF, no character cut off. A pattern is tested at every call that takes a

@@ -13,16 +13,6 @@ use Rattle.slices.proofs.bytes.PlaceLaws.{place_end, place_within}
 use Rattle.lines.specs.Span.{span_of}
 
 module _ (s : List ℕ) (at : ℕ) where
-  -- past the end there is no line
-  pub span_past : length s ≤ at → record { whole = false; from = length s; to = length s } ≡ span_of s at
-  unfolding span_of
-  span_past l = rw (← place_end 10 s at l, min-eq_right l, le-ltb (length s) (length s) (le_refl _))
-
-  -- inside, the line goes from the place to the first LF
-  pub span_here : {r : ℕ} → at < length s → r ≡ find_byte 10 s at → record { whole = ltb r (length s); from = at; to = r } ≡ span_of s at
-  unfolding span_of
-  span_here l e = rw (e, min-eq_left (le_of_lt l))
-
   -- a line lies in its text
   pub span_within : ((span_of s at).from ≤ (span_of s at).to) × ((span_of s at).to ≤ length s)
   unfolding span_of

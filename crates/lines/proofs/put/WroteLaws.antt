@@ -1,5 +1,5 @@
--- How writes into a lent buffer follow one another: none (`wrote_none`), one after another (`wrote_then`), and past the buffer's end (`wrote_out`). No law has a condition on the room, since what
--- does not fit is cut off; who knows that all fits has the place by `wrote_room`. Assumes nothing.
+-- How writes into a lent buffer follow one another: none (`wrote_none`), one after another (`wrote_then`), a byte more (`wrote_more`). No law has a condition on the room, since what does not fit
+-- is cut off; who knows that all fits has the place by `wrote_room`. Assumes nothing.
 use Prim.Native.Nat.{ℕ, suc, ◌+◌, ◌≤◌, ◌<◌}
 use mathlib.Core.Path.{◌≡◌, refl, sym, ap, ◌∙◌}
 use mathlib.Core.List.{List, [], ◌∷◌, ◌++◌}
@@ -44,19 +44,7 @@ module _ {d e : List ℕ} {at r : ℕ} {t : List ℕ} (w : Wrote d e at t r) whe
 pub wrote_none : (d : List ℕ) (at : ℕ) → Wrote d d at [] at
 wrote_none d at = record { next = omega arith; bytes = refl }
 
-pub wrote_out : (d : List ℕ) {at : ℕ} (t : List ℕ) → length d ≤ at → Wrote d d at t at
-wrote_out d {at} t h = record { next = omega arith; bytes = sym (sets_out d at t h) }
-
-wrote_byte : (d : List ℕ) {at : ℕ} (b : ℕ) → at < length d → Wrote d (set d at b) at (b ∷ []) (at + 1)
-wrote_byte d b h = record { next = omega arith; bytes = refl }
-
 -- a loop that writes `s` byte by byte: it stands at place `i` of `s` and at place `p` of the buffer
 module _ {d e : List ℕ} {at p : ℕ} (s : List ℕ) (i : ℕ) (w : Wrote d e at (take i s) p) where
-  pub wrote_more : i < length s → p < length e → Wrote d (set e p (get_or s i 0)) at (take (i + 1) s) (p + 1)
-  wrote_more h g = rw (add-one i, take-suc s i 0) (wrote_then w (wrote_byte e (get_or s i 0) g))
-
-  pub wrote_all : length s ≤ i → Wrote d e at s p
-  wrote_all h = rw (take_all i s h) at w
-
-  pub wrote_cut : length e ≤ p → Wrote d e at s p
-  wrote_cut h = rw take-append-drop at (wrote_then w (wrote_out e (drop i s) h))
+  pub wrote_more : i < length s → {f : List ℕ} {r : ℕ} → Wrote e f p (get_or s i 0 ∷ []) r → Wrote d f at (take (i + 1) s) r
+  wrote_more h v = rw (add-one i, take-suc s i 0) (wrote_then w v)

@@ -16,15 +16,6 @@ use Rattle.lines.specs.declared.value.Number.TheVariants.{Value, Bad}
 use Rattle.lines.specs.ReadDecimal.{is_digit, with_digit, digit_fits, digits_after, no_spare_zero, decimal_of}
 
 module _ (v c high : ℕ) where
-  -- the code's test, by a division, is the definition's, by a product
-  pub digit_limit : 48 ≤ c → c ≤ 57 → c - 48 ≤ high → leb v ((high - (c - 48)) / 10) ≡ digit_fits v c high
-  unfolding is_digit digit_fits
-  digit_limit a b h =
-      rw (le-leb _ _ a, le-leb _ _ b)
-      (by (leb v ((high - (c - 48)) / 10))
-      (λ e. e ∙ sym (le-leb (with_digit v c) high (let g : v ≤ (high - (c - 48)) / 10 = leb-true _ _ e in omega arith)))
-      (λ e. e ∙ sym (lt-leb (with_digit v c) high (let g : (high - (c - 48)) / 10 < v = leb-false _ _ e in omega arith))))
-
   -- a digit that fits is a digit, and the number with it is at most the highest
   pub digit_room : digit_fits v c high ≡ true → (48 ≤ c) × (c ≤ 57) × (with_digit v c ≤ high)
   unfolding is_digit digit_fits
@@ -33,18 +24,7 @@ module _ (v c high : ℕ) where
       let f = both _ _ d.0 in
       (leb-true _ _ f.0, leb-true _ _ f.1, leb-true _ _ d.1)
 
--- nothing, one byte, and more: whether there is a spare zero
-pub spare_none : (l : List ℕ) → length l ≡ 0 → false ≡ no_spare_zero l
-unfolding no_spare_zero
-spare_none [] e = refl
-spare_none (c ∷ l) e = absurd (omega arith)
-
-pub spare_one : (l : List ℕ) → length l ≡ 1 → true ≡ no_spare_zero l
-unfolding no_spare_zero
-spare_one [] e = absurd (omega arith)
-spare_one (c ∷ []) e = refl
-spare_one (c ∷ (d ∷ l)) e = absurd (omega arith)
-
+-- more than one byte: whether there is a spare zero
 pub spare_more : (l : List ℕ) → (length l ≡ 0 → ⊥) → (length l ≡ 1 → ⊥) → not (eqb (get_or l 0 0) 48) ≡ no_spare_zero l
 unfolding no_spare_zero
 spare_more [] h g = absurd (h refl)

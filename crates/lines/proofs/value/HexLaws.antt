@@ -23,20 +23,6 @@ hex_kinds c e f g =
     (λ a. let h = both _ _ a in f (leb-true _ _ h.0) (leb-true _ _ h.1))
     (λ a. let h = both _ _ a in g (leb-true _ _ h.0) (leb-true _ _ h.1))
 
--- a hex digit below 58 is a decimal one
-pub hex_decimal : (c : ℕ) → is_hex c ≡ true → c < 58 → (48 ≤ c) × ((c - 48 ≡ hex_value c) × (c - 48 < 16))
-hex_decimal c e h =
-    hex_kinds c e
-    (λ a b. (a, (rw (lt-ltb _ _ h), omega arith)))
-    (λ a b. absurd (omega arith))
-
--- any other is a letter
-pub hex_letter : (c : ℕ) → is_hex c ≡ true → 58 ≤ c → (87 ≤ c) × ((c - 87 ≡ hex_value c) × (c - 87 < 16))
-hex_letter c e h =
-    hex_kinds c e
-    (λ a b. absurd (omega arith))
-    (λ a b. (omega arith, (rw (le-ltb _ _ h), omega arith)))
-
 -- what is left at a place where a pair of digits stands: its byte, and what is left after it
 unhex_pair : (l : List ℕ) (i : ℕ) → i * 2 + 1 < length l → unhex (drop (i * 2) l) ≡ (hex_value (get_or l (i * 2) 0) * 16 + hex_value (get_or l (i * 2 + 1) 0)) ∷ unhex (drop ((i + 1) * 2) l)
 unfolding unhex

@@ -1,12 +1,11 @@
 -- The definitions of specs/Bytes.antt as std's words, which its methods promise. Assumes nothing.
-use Rattle.std.proofs.Common.{◌≡◌, refl, sym, ap, ℕ, ◌&&◌, List, [], ◌∷◌, length, arith, eqb, ◌==◌, count_by, position, not, ltb}
+use Rattle.std.proofs.Common.{◌≡◌, refl, sym, ap, ◌∙◌, ℕ, ◌&&◌, List, [], ◌∷◌, length, arith, eqb, ◌==◌, count_by, position}
 use Rattle.std.specs.Option.{unwrap_or}
-use borrow.Author.Tests.{ltb-false}
-use Rattle.std.proofs.lemmas.List.Sums.{prefix_len-le-length}
 use Rattle.std.specs.List.{starts_with, list_any, position_or_len}
 use Rattle.std.specs.Cmp.Lexicographic.{pointwise}
 use Rattle.std.proofs.lemmas.List.Recursion.{is_count_by, is_position_or_len}
 use Rattle.laws.proofs.Cases.{by}
+use Rattle.laws.proofs.Lists.{position_or}
 use Rattle.slices.specs.Bytes.{same, begins, has, count_of, to_byte}
 
 -- `a == b`
@@ -41,8 +40,4 @@ unfolding to_byte
 to_position_or_len c = is_position_or_len (to_byte c) (λ b. b == c) refl (λ b s. by (eqb b c) (λ e. rw (e, to_byte)) (λ e. rw (e, to_byte) (omega arith)))
 
 pub to_position : (c : ℕ) (s : List ℕ) → unwrap_or (position (λ b. b == c) s) (length s) ≡ to_byte c s
-to_position c s =
-    let k = prefix_len-le-length (λ b. not (b == c)) s in
-    by (ltb (position_or_len (λ b. b == c) s) (length s))
-    (λ e. rw (e) (sym (to_position_or_len c s)))
-    (λ e. rw (e, to_position_or_len c s) (omega (arith, ltb-false _ _ e, k)))
+to_position c s = position_or _ s ∙ sym (to_position_or_len c s)

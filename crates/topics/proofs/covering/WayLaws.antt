@@ -1,37 +1,12 @@
 -- What the functions of `covering` see at one place: one law for each way out of them and round their loops, with the branches' facts as premises. Assumes nothing.
-use Rattle.std.proofs.Common.{◌≡◌, ℕ, zero, suc, ◌+◌, ◌-◌, ◌<◌, ◌≤◌, min, Bool, true, false, cond, not, ◌&&◌, eqb, List, [], ◌∷◌, ◌++◌, length, get_or, take, drop, set, sym, refl}
+use Rattle.std.proofs.Common.{◌≡◌, ℕ, zero, suc, ◌+◌, ◌-◌, ◌<◌, ◌≤◌, min, Bool, true, false, cond, eqb, List, [], ◌∷◌, ◌++◌, length, get_or, take, drop, set, sym, refl}
 use Rattle.std.proofs.Common.{ap, ◌∙◌, add-one, arith, drop_of_length-le, length-take, take-take, eq-eqb, ne_eqb}
-use mathlib.Core.Bool.{and-false}
 use lib.Seq.{sets, sets-eq, length-sets, take-append_seam}
-use Rattle.laws.specs.Lists.{none}
 use Rattle.laws.proofs.Cases.{by}
 use Rattle.laws.proofs.Lists.{take_like}
 use Rattle.slices.proofs.bytes.WalkLaws.{opened}
 use Rattle.topics.specs.Covering.{only_later, sample, all_but, first_cut, tried_with}
-use Rattle.topics.specs.Matching.{matches_with}
 use Rattle.topics.proofs.covering.SampleLaws.{sample-length}
-
--- a topic of the later pattern alone
-module _ (f d : Bool) (p q n : List ℕ) where
-  pub only_empty : length n ≡ 0 → false ≡ only_later f d p q n
-  unfolding only_later
-  only_empty e = empty n e
-    where
-      empty : (n : List ℕ) → length n ≡ 0 → false ≡ (not (none n) && matches_with f d n q && not (matches_with f d n p))
-      empty [] e = refl
-      empty (c ∷ n) e = absurd (omega arith)
-
-  pub only_not : matches_with f d n q ≡ false → false ≡ only_later f d p q n
-  unfolding only_later
-  only_not e = rw (e, and-false (not (none n)))
-
-  pub only_is : (length n ≡ 0 → ⊥) → matches_with f d n q ≡ true → not (matches_with f d n p) ≡ only_later f d p q n
-  unfolding only_later
-  only_is z e = some n z e
-    where
-      some : (n : List ℕ) → (length n ≡ 0 → ⊥) → matches_with f d n q ≡ true → not (matches_with f d n p) ≡ (not (none n) && matches_with f d n q && not (matches_with f d n p))
-      some [] z e = absurd (z refl)
-      some (c ∷ n) z e = rw e
 
 -- the search through the tries
 module _ (test : List ℕ → Bool) (s : List ℕ) where

@@ -1,19 +1,23 @@
 -- What proofs here and in crates above need of the hashes: each fits 32 bits, and the payload hash has 32 bytes; what the hashes of an empty and of any
 -- other text are. That the words of the payload hash are little-endian (document 01, "Hashes") is shown here too.
 -- Assumes nothing.
-use Rattle.std.proofs.Common.{◌≡◌, ℕ, ◌-◌, ◌^◌, ◌<◌, Bool, true, false, cond, leb, List, [], ◌∷◌, length, drop, replicate, refl, mod-lt, arith, pow_pos}
-use Rattle.laws.proofs.Folds.{fold_keeps}
+use Rattle.std.proofs.Common.{◌≡◌, ℕ, ◌^◌, ◌<◌, Bool, true, false, cond, leb, List, [], ◌∷◌, length, drop, replicate, refl, mod-lt, arith, pow_pos, fold}
+use Rattle.std.proofs.lemmas.List.Folds.{fold_along}
 use Rattle.topics.specs.Hashes.{fnv_step, fnv1a, djb_step, djb2, suffix_hash, client_hashes}
 use Rattle.topics.specs.Payload.{streams_of, le_bytes, word_bytes, payload_hash}
+
+-- a fold from a word, each step of which gives a word
+word_kept : (f : ℕ → ℕ → ℕ) → ((h b : ℕ) → f h b < 2 ^ 32) → (h : ℕ) (s : List ℕ) → h < 2 ^ 32 → fold f h s < 2 ^ 32
+word_kept f k h s l = fold_along f (λ (u : ℕ) (b : ℕ). u) (λ h u. h < 2 ^ 32) (λ h u b m. k h b) h 0 s l
 
 -- each hash fits 32 bits; request C-23, which writes them, waits for that
 pub fnv_lt : (s : List ℕ) → fnv1a s < 2 ^ 32
 unfolding fnv1a
-fnv_lt s = fold_keeps fnv_step (λ h. h < 2 ^ 32) (λ h b l. mod-lt _ (pow_pos 32)) s (omega arith)
+fnv_lt s = word_kept fnv_step (λ h b. mod-lt _ (pow_pos 32)) 0x811c9dc5 s (omega arith)
 
 djb_lt : (s : List ℕ) → djb2 s < 2 ^ 32
 unfolding djb2
-djb_lt s = fold_keeps djb_step (λ h. h < 2 ^ 32) (λ h b l. mod-lt _ (pow_pos 32)) s (omega arith)
+djb_lt s = word_kept djb_step (λ h b. mod-lt _ (pow_pos 32)) 5381 s (omega arith)
 
 pub suffix_lt : (s : List ℕ) → suffix_hash s < 2 ^ 32
 unfolding suffix_hash

@@ -1,20 +1,13 @@
--- The byte matcher at what is left of a topic and a pattern at an index each: one law for each way through the loop of `walk` and
--- through `takes_none` and `takes_end`, with the branches' facts as premises; and through `matches_with`, which walks first. Assumes nothing.
-use Rattle.std.proofs.Common.{◌≡◌, ℕ, ◌+◌, ◌<◌, ◌≤◌, min, Bool, true, false, not, ◌&&◌, eqb, List, [], ◌∷◌, length, get_or, drop, sym, refl, ap, ◌∙◌, arith, drop_of_length-le}
+-- The byte matcher at what is left of a topic and a pattern at an index each: one law for each way through the loop of `walk`, with the branches' facts as premises.
+-- Assumes nothing.
+use Rattle.std.proofs.Common.{◌≡◌, ℕ, ◌+◌, ◌<◌, ◌≤◌, min, Bool, true, false, eqb, List, [], ◌∷◌, length, get_or, drop, sym, refl, arith, drop_of_length-le}
 use Rattle.std.proofs.Common.{drop-drop, eq-eqb, ne_eqb}
-use mathlib.Core.Bool.{and_comm}
-use borrow.Author.Tests.{not-true, not-false}
 use Rattle.laws.proofs.Cases.{by}
-use Rattle.laws.proofs.Tests.{guard_off, guard_on}
 use Rattle.slices.specs.Bytes.{to_byte, find_byte}
 use Rattle.slices.proofs.bytes.WalkLaws.{opened}
-use Rattle.topics.specs.Matching.{from_slash, takes_none, takes_end, match_bytes, dollar_apart, matches_with}
+use Rattle.topics.specs.Matching.{from_slash, takes_none, takes_end, match_bytes}
 
 -- at the end of a list each definition knows its answer
-pub none_end : (p : List ℕ) (j : ℕ) → length p ≤ j → true ≡ takes_none (drop j p)
-unfolding takes_none
-none_end p j l = rw (drop_of_length-le p l)
-
 pub end_end : (f : Bool) (p : List ℕ) (j : ℕ) → length p ≤ j → takes_none (drop j p) ≡ takes_end f (drop j p)
 unfolding takes_none takes_end
 end_end f p j l = rw (drop_of_length-le p l)
@@ -35,42 +28,6 @@ unfolding find_byte
 slash_found s i h e =
     let k : min i (length s) ≡ i = omega arith in
     rw (e, k, ← slash_to (drop i s)) (sym (drop-drop (to_byte 47 (drop i s)) i s))
-
--- without the flag nothing is passed over
-end_none : (q : List ℕ) → takes_none q ≡ takes_end false q
-unfolding takes_none takes_end
-end_none [] = refl
-end_none (c ∷ q) = refl
-
-pub end_port : (f : Bool) (p : List ℕ) (j : ℕ) → not f ≡ true → takes_none (drop j p) ≡ takes_end f (drop j p)
-end_port f p j b = rw (not-true f b) (end_none (drop j p))
-
--- the pattern alone
-module _ (p : List ℕ) (j : ℕ) (l : j < length p) where
-  pub none_hash : get_or p j 0 ≡ 35 → true ≡ takes_none (drop j p)
-  unfolding takes_none
-  none_hash e = rw (opened p j l, eq-eqb _ _ e, takes_none)
-
-  pub end_plus : (f : Bool) → not f ≡ false → get_or p j 0 ≡ 43 → takes_none (drop (j + 1) p) ≡ takes_end f (drop j p)
-  unfolding takes_end
-  end_plus f b e = rw (opened p j l, not-false f b, eq-eqb _ _ e, takes_end)
-
-  pub end_other : (f : Bool) → not f ≡ false → (get_or p j 0 ≡ 43 → ⊥) → takes_none (drop j p) ≡ takes_end f (drop j p)
-  unfolding takes_end
-  end_other f b e = rw (opened p j l, not-false f b, ne_eqb _ _ e, takes_end)
-
-  module _ (h : get_or p j 0 ≡ 35 → ⊥) where
-    pub none_other : (get_or p j 0 ≡ 47 → ⊥) → false ≡ takes_none (drop j p)
-    unfolding takes_none
-    none_other e = rw (opened p j l, ne_eqb _ _ h, ne_eqb _ _ e, takes_none)
-
-    pub none_last : get_or p j 0 ≡ 47 → length p ≤ j + 1 → false ≡ takes_none (drop j p)
-    unfolding takes_none
-    none_last e m = rw (opened p j l, ne_eqb _ _ h, eq-eqb _ _ e, takes_none, drop_of_length-le p m)
-
-    pub none_next : get_or p j 0 ≡ 47 → j + 1 < length p → eqb (get_or p (j + 1) 0) 35 ≡ takes_none (drop j p)
-    unfolding takes_none
-    none_next e m = rw (opened p j l, ne_eqb _ _ h, eq-eqb _ _ e, takes_none, opened p (j + 1) m)
 
 -- topic and pattern
 module _ (f : Bool) (t p : List ℕ) (i j : ℕ) (lt : i < length t) where
@@ -96,13 +53,3 @@ module _ (f : Bool) (t p : List ℕ) (i j : ℕ) (lt : i < length t) where
         pub match_byte : get_or p j 0 ≡ get_or t i 0 → match_bytes f (drop i t) (drop j p) ≡ match_bytes f (drop (i + 1) t) (drop (j + 1) p)
         unfolding match_bytes
         match_byte e = rw (opened t i lt, opened p j lp, ne_eqb _ _ h, ne_eqb _ _ q, eq-eqb _ _ e, match_bytes)
-
--- by both flags: the walk, then what is kept apart
-module _ (f d : Bool) (t p : List ℕ) {w : Bool} (walked : w ≡ match_bytes f t p) where
-  pub not_walked : not w ≡ true → false ≡ matches_with f d t p
-  not_walked n = guard_off (match_bytes f t p) _ (ap not (sym walked) ∙ n) ∙ and_comm (match_bytes f t p) (not (d && dollar_apart t p))
-
-  pub walked_apart : not w ≡ false → {a : Bool} → a ≡ (d && dollar_apart t p) → not a ≡ matches_with f d t p
-  walked_apart n e =
-      guard_on (match_bytes f t p) (not (d && dollar_apart t p)) (ap not (sym walked) ∙ n) (ap not e)
-      ∙ and_comm (match_bytes f t p) (not (d && dollar_apart t p))

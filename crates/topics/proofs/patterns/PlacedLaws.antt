@@ -17,9 +17,6 @@ unfolding valid_wildcards
 valid_some [] e = absurd (e refl)
 valid_some (c ∷ p) e = placed-levels (c ∷ p)
 
-pub levels_end : (p : List ℕ) (i : ℕ) → i < length p → eqb (get_or p i 0) 47 ≡ level_ends (drop i p)
-levels_end p i l = rw (opened p i l)
-
 pub placed_end : (f : Bool) (p : List ℕ) (i : ℕ) → length p ≤ i → placed f (drop i p) ≡ true
 unfolding placed
 placed_end f p i l = rw (drop_of_length-le p l)
@@ -34,13 +31,14 @@ module _ (p : List ℕ) (f : Bool) (i : ℕ) (l : i < length p) where
   hash_mid b e = rw (opened p i l, eq-eqb _ _ e, placed, b)
 
   module _ (h : get_or p i 0 ≡ 35 → ⊥) where
-    pub plus_mid : f ≡ false → get_or p i 0 ≡ 43 → placed f (drop i p) ≡ false
-    unfolding placed
-    plus_mid b e = rw (opened p i l, ne_eqb _ _ h, eq-eqb _ _ e, placed, b)
+    module _ {t : Bool} (alone : t ≡ (f && level_ends (drop (i + 1) p))) (e : get_or p i 0 ≡ 43) where
+      pub plus_off : t ≡ false → placed f (drop i p) ≡ false
+      unfolding placed
+      plus_off n = rw (opened p i l, ne_eqb _ _ h, eq-eqb _ _ e, placed, ← alone, n)
 
-    pub plus_on : {t : Bool} → f ≡ true → get_or p i 0 ≡ 43 → level_ends (drop (i + 1) p) ≡ t → placed f (drop i p) ≡ (t && placed false (drop (i + 1) p))
-    unfolding placed
-    plus_on b e t = rw (opened p i l, ne_eqb _ _ h, eq-eqb _ _ e, placed, b, t)
+      pub plus_on : t ≡ true → placed f (drop i p) ≡ placed (eqb (get_or p i 0) 47) (drop (i + 1) p)
+      unfolding placed
+      plus_on y = rw (opened p i l, ne_eqb _ _ h, eq-eqb _ _ e, placed, ← alone, y) (rw e)
 
     pub placed_on : (get_or p i 0 ≡ 43 → ⊥) → placed f (drop i p) ≡ placed (eqb (get_or p i 0) 47) (drop (i + 1) p)
     unfolding placed

@@ -1,15 +1,9 @@
 -- Whether a text has no control character, as a loop over its bytes sees it: by the byte at a place and by those after it; and how long a text is as it is shown.
 -- Assumes nothing.
-use Rattle.std.proofs.Common.{◌≡◌, ℕ, ◌+◌, ◌<◌, ◌≤◌, true, false, not, ltb, leb, List, length, get_or, drop, drop_of_length-le, le-ltb, lt-ltb, le-leb}
-use borrow.Author.Tests.{lt-leb}
+use Rattle.std.proofs.Common.{◌≡◌, ℕ, ◌+◌, ◌<◌, ◌≤◌, true, false, List, length, get_or, drop, drop_of_length-le}
 use lib.ListN.{length-map}
-use Rattle.laws.proofs.Cases.{by_le}
 use Rattle.slices.proofs.bytes.WalkLaws.{opened}
 use Rattle.topics.specs.Shown.{fine, fine_after, readable, shown_byte, shown}
-
--- one number is at most another where that is not less
-pub not_less : (a b : ℕ) → leb a b ≡ not (ltb b a)
-not_less a b = by_le a b (λ h. rw (le-leb a b h, le-ltb b a h)) (λ h. rw (lt-leb a b h, lt-ltb b a h))
 
 module _ (s : List ℕ) {i : ℕ} (before : ℕ) where
   -- whether what is left of a text is fine: as in the rest at a fine byte, no at another, and yes at the end

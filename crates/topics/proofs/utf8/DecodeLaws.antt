@@ -1,5 +1,5 @@
 -- Laws of the decoder's step, way by way, and that no number outgrows the code's 32 bits. Assumes nothing.
-use Rattle.std.proofs.Common.{◌≡◌, ℕ, ◌-◌, ◌<◌, ◌≤◌, Bool, true, false, cond, ◌&&◌, eqb, ltb, leb, ◌⊎◌, refl, inl, inr, arith, ltb-false, ltb-true, le-ltb, lt-ltb, eq-eqb, ne_eqb}
+use Rattle.std.proofs.Common.{◌≡◌, ℕ, ◌-◌, ◌<◌, ◌≤◌, false, ◌&&◌, eqb, ltb, leb, ◌⊎◌, refl, inl, inr, arith, ltb-true, le-ltb, lt-ltb}
 use Rattle.laws.proofs.Cases.{choose, clash}
 use Rattle.laws.proofs.Tests.{both}
 use Rattle.topics.specs.Utf8.{is_scalar, broken, between, inside, begun, continues, with_six, ended, added, taken}
@@ -52,30 +52,10 @@ module _ (d : Decoding) (b : ℕ) where
   unfolding added
   add_broken e = rw e
 
-  -- one after which more are to come
-  pub add_more : continues b ≡ true → 1 < d.left → added d b ≡ inside (d.left - 1) (with_six d.value b) d.least
-  unfolding added
-  add_more e h = rw (e, lt-ltb _ _ h)
-
-  -- the last one
-  pub add_last : continues b ≡ true → d.left ≤ 1 → added d b ≡ ended (with_six d.value b) d.least
-  unfolding added
-  add_last e h = rw (e, le-ltb _ _ h)
-
   -- what is broken stays so
   pub take_broken : d.fine ≡ false → taken d b ≡ broken
   unfolding taken
   take_broken e = choose (λ (x : Decoding). x ≡ broken) d.fine (λ t. clash t e) (λ _. refl)
-
-  -- between characters a byte begins one
-  pub take_first : d.fine ≡ true → d.left ≡ 0 → taken d b ≡ begun b
-  unfolding taken
-  take_first e z = choose (λ (x : Decoding). x ≡ begun b) d.fine (λ _. rw (eq-eqb _ _ z)) (λ f. clash e f)
-
-  -- inside one it is its next
-  pub take_next : d.fine ≡ true → (d.left ≡ 0 → ⊥) → taken d b ≡ added d b
-  unfolding taken
-  take_next e n = choose (λ (x : Decoding). x ≡ added d b) d.fine (λ _. rw (ne_eqb _ _ n)) (λ f. clash e f)
 
 -- a number so far has at most 15 bits, and 9 or 3 if two or three bytes are to come
 abbrev pub Narrow : Decoding → Type 0

@@ -1,7 +1,6 @@
 -- What is UTF-8 is an encoding of scalar values (specs/Encoding.antt): the bytes are taken apart from the left, a character at a time. Assumes nothing.
-use Rattle.std.proofs.Common.{◌≡◌, ℕ, zero, suc, ◌+◌, ◌-◌, ◌*◌, ◌/◌, ◌%◌, ◌<◌, ◌≤◌, Bool, true, false, cond, ◌&&◌, eqb, ltb, leb, List, [], ◌∷◌, ◌++◌, length, sym, refl, ap, ◌∙◌}
+use Rattle.std.proofs.Common.{◌≡◌, ℕ, zero, suc, ◌+◌, ◌-◌, ◌*◌, ◌/◌, ◌%◌, ◌<◌, ◌≤◌, Bool, true, false, cond, ◌&&◌, eqb, ltb, leb, List, [], ◌∷◌, ◌++◌, length, sym, refl, ap, ◌∙◌, fold}
 use Rattle.std.proofs.Common.{subst, arith, ltb-false, ltb-true, le-ltb, lt-ltb, ne_eqb, le-leb, leb-true}
-use mathlib.Core.List.{foldl}
 use Rattle.laws.specs.Lists.{every}
 use Rattle.laws.proofs.Cases.{by, clash}
 use Rattle.laws.proofs.Tests.{both}
@@ -14,7 +13,7 @@ use Rattle.topics.proofs.utf8.Encoded.{encoded, zero_byte}
 
 -- bytes that end well from where the decoder stands
 abbrev Good : Decoding → List ℕ → Type 0
-Good d s = is_whole (foldl taken d s) ≡ true
+Good d s = is_whole (fold taken d s) ≡ true
 
 moved : {c d : Decoding} (s : List ℕ) → c ≡ d → Good c s → Good d s
 moved s e g = subst (λ (x : Decoding). Good x s) e g

@@ -1,7 +1,6 @@
 -- Every encoding of scalar values is UTF-8, and has a zero byte only for U+0000 (specs/Encoding.antt). Assumes nothing.
-use Rattle.std.proofs.Common.{◌≡◌, ℕ, ◌+◌, ◌-◌, ◌*◌, ◌/◌, ◌%◌, ◌<◌, ◌≤◌, Bool, true, false, cond, ◌&&◌, ◌||◌, eqb, ltb, leb, List, [], ◌∷◌, ◌++◌, sym, refl, ap, ◌∙◌, arith}
-use Rattle.std.proofs.Common.{ltb-false, ltb-true, le-ltb, lt-ltb, ne_eqb, le-leb, leb-true}
-use mathlib.Core.List.{foldl}
+use Rattle.std.proofs.Common.{◌≡◌, ℕ, ◌+◌, ◌-◌, ◌*◌, ◌/◌, ◌%◌, ◌<◌, ◌≤◌, Bool, true, false, ◌&&◌, ◌||◌, eqb, ltb, leb, List, [], ◌∷◌, ◌++◌, sym, refl, ap, ◌∙◌, arith, fold}
+use Rattle.std.proofs.Common.{ltb-false, ltb-true, lt-ltb, ne_eqb, le-leb, leb-true}
 use Rattle.laws.specs.Lists.{every}
 use Rattle.laws.proofs.Cases.{by}
 use Rattle.laws.proofs.Every.{every_both}
@@ -61,7 +60,7 @@ module _ (w v least : ℕ) (e : w * 64 + v % 64 ≡ v) where
   last l s = rw (low, high, six, le-leb _ _ l, s)
 
 -- one scalar value
-one : (v : ℕ) (rest : List ℕ) → is_scalar v ≡ true → foldl taken between (encode v ++ rest) ≡ foldl taken between rest
+one : (v : ℕ) (rest : List ℕ) → is_scalar v ≡ true → fold taken between (encode v ++ rest) ≡ fold taken between rest
 unfolding encode
 one v rest s =
     let top : v ≤ 0x10FFFF = scalar_top v s in
@@ -88,7 +87,7 @@ one v rest s =
       last (v / 64) v 0x10000 (omega arith) lc s,
     ))))
 
-all : (vs : List ℕ) → every is_scalar vs ≡ true → foldl taken between (encode_all vs) ≡ between
+all : (vs : List ℕ) → every is_scalar vs ≡ true → fold taken between (encode_all vs) ≡ between
 unfolding encode_all
 all [] s = refl
 all (v ∷ vs) s = let h = every_both is_scalar v vs s in one v (encode_all vs) h.0 ∙ all vs h.1

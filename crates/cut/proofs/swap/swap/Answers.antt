@@ -1,32 +1,19 @@
-use native.Mathlib.Omega.{arith}
-use borrow.Author.Tests.{ltb-true, ltb-false}
-use lib.ListN.{length-take}
-use Rattle.cut.proofs.swap.SwapLaws.{swapping_none, swapping_next, swapping_all}
+use Rattle.std.proofs.Common.{◌≡◌, get_or, length, take, arith, take_all, drop_of_length-le, append-nil}
+use Rattle.std.proofs.lemmas.List.{get_or_default}
+use Rattle.std.proofs.lemmas.List.Edits.{map_over_more}
+use Rattle.cut.specs.Swap.{swapped}
+use Rattle.cut.proofs.swap.SwapLaws.{swapped_all}
 use Rattle.cut.proofs.swap.swap.Goals as goal
 
-pub loop-i-init : goal.loop-i-init
-loop-i-init c = swapping_none _ _ _ _
+pub loop-b-preserved : goal.loop-b-preserved
+loop-b-preserved c =
+    let b = get_or c.loop-b.b-items c.loop-b.b-index 0 in
+    let same : b ≡ get_or c.loop-b.b-items c.loop-b.b-index b = get_or_default c.loop-b.b-items c.loop-b.b-index 0 b (omega (arith, c.loop-b.auto.b-items)) in
+    rw c.swapped.ensures (map_over_more (swapped c.args.old c.args.new) (take c.min-n.result c.args.s.now) c.loop-b.b-items c.loop-b.b-index b (omega arith) c.loop-b.invariant same)
 
-pub bounds-s-i : goal.bounds-s-i
-bounds-s-i c = omega (arith, ltb-true)
-
-pub bounds-s-i-in-loop-i : goal.bounds-s-i-in-loop-i
-bounds-s-i-in-loop-i c = omega (arith, ltb-true)
-
-pub overflow_add-i : goal.overflow_add-i
-overflow_add-i c = omega (arith, ltb-true)
-
-pub loop-i-preserved : goal.loop-i-preserved
-loop-i-preserved c = swapping_next c.loop-i.invariant (omega (arith, ltb-true)) (omega (arith, ltb-true)) c.swapped.ensures
-
-pub shape_of-s-else-i-s : goal.shape_of-s-else-i-s
-shape_of-s-else-i-s c = c.loop-i.invariant.same
-
-pub returns-else-i-s : goal.returns-else-i-s
-returns-else-i-s c = swapping_all c.loop-i.invariant (rw (length-take) (omega (arith, ltb-false)))
-
-pub shape_of-s-after-loop-i : goal.shape_of-s-after-loop-i
-shape_of-s-after-loop-i c = c.loop-i.invariant.same
-
-pub returns-after-loop-i : goal.returns-after-loop-i
-returns-after-loop-i c = swapping_all c.loop-i.invariant (rw (length-take) (omega (arith, ltb-false)))
+pub returns : goal.returns
+returns c =
+    let front = take c.min-n.result c.args.s.now in
+    let e : c.loop-b.b-index ≡ length front = omega arith in
+    rw (c.loop-b.invariant, e, take_all (length front) front (omega arith), drop_of_length-le front {i = length front} (omega arith), append-nil)
+    (swapped_all c.args.old c.args.new c.args.n c.args.s.now c.min-n.ensures)

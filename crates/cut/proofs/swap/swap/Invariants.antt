@@ -1,10 +1,7 @@
--- `cut::swap::swap` meets its contract. The invariant: the first `i` bytes are swapped; the measure: those that are left. Assumes nothing.
-use Prim.Native.Nat.{◌-◌}
-use Rattle.cut.proofs.swap.SwapLaws.{Swapping}
+-- `cut::swap::swap` meets its contract. The invariant: the bytes so far are swapped, the others are as they were. Assumes nothing.
+use Rattle.std.proofs.Common.{◌≡◌, ◌++◌, map, take, drop}
+use Rattle.cut.specs.Swap.{swapped}
 use Rattle.cut.proofs.swap.swap.Given as goal
 
-abbrev pub invariant-loop-i : goal.invariant-loop-i
-invariant-loop-i l = Swapping l.old l.new l.n l.initial.s l.s l.i
-
-abbrev pub decreases-loop-i : goal.decreases-loop-i
-decreases-loop-i l = l.n - l.i
+abbrev pub invariant-loop-b : goal.invariant-loop-b
+invariant-loop-b l = l.b-items ≡ map (swapped l.old l.new) (take l.b-index l.initial.b-items) ++ drop l.b-index l.initial.b-items

@@ -4,9 +4,6 @@ use Rattle.lines.proofs.lengths.LineLaws.{word_line-length}
 use Rattle.lines.proofs.words.WordLaws.{part_length}
 use Rattle.lines.proofs.lengths.word_line_len.Goals as goal
 
-pub overflow_sub-part : goal.overflow_sub-part
-overflow_sub-part c = c.word_part-part.ensures.ordered
-
 pub returns : goal.returns
 returns c =
     let args = c.args in

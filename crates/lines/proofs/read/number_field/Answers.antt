@@ -10,5 +10,5 @@ returns-then-line-ne0 c = record { value = rw (← c.line_at-line.ensures.value)
 pub returns : goal.returns
 unfolding number_field
 returns c = let line = c.line_at-line.ensures in
-    let h = answers _ _ _ line.value c.if-line-ne0.false line.within 22 c.decimal.ensures c.answered.ensures in
+    let h = answers _ _ _ line.value c.if-line-ne0.false line.within 22 c.decimal-number.ensures c.answered.ensures in
     record { value = rw (← line.value) h.0; within = h.1 }

@@ -7,10 +7,10 @@ pub returns-then-text-at : goal.returns-then-text-at
 unfolding text_end
 returns-then-text-at c = rw (le-leb _ _ c.if-text-at.true)
 
-pub returns-then-line : goal.returns-then-line
+pub returns-then-span_from : goal.returns-then-span_from
 unfolding text_end
-returns-then-line c = rw (lt-leb _ _ c.if-text-at.false, ← c.span_from-line.ensures, c.if-line.true)
+returns-then-span_from c = rw (lt-leb _ _ c.if-text-at.false, ← c.span_from.ensures, c.if-span_from.true)
 
-pub returns : goal.returns
+pub returns-else-span_from : goal.returns-else-span_from
 unfolding text_end
-returns c = rw (lt-leb _ _ c.if-text-at.false, ← c.span_from-line.ensures, c.if-line.false)
+returns-else-span_from c = rw (lt-leb _ _ c.if-text-at.false, ← c.span_from.ensures, c.if-span_from.false)

@@ -10,5 +10,5 @@ returns-then-line-ne0 c = record { value = rw (← c.line_at-line.ensures.value)
 pub returns : goal.returns
 unfolding word_field
 returns c = let line = c.line_at-line.ensures in
-    let h = answers _ _ _ line.value c.if-line-ne0.false line.within 23 c.word.ensures c.answered.ensures in
+    let h = answers _ _ _ line.value c.if-line-ne0.false line.within 23 c.word-place.ensures c.answered.ensures in
     record { value = rw (← line.value) h.0; within = h.1 }

@@ -1,12 +1,7 @@
--- `lines::value::decimal` meets its contract. The invariant: `v` is the number that the first `i` bytes spell, all of them digits, and at most `high`; the measure: the bytes that are left.
--- Assumes nothing.
-use Prim.Native.Nat.{◌-◌, ◌≤◌}
-use lib.ListN.{length}
+-- `lines::value::decimal` meets its contract. The invariant: `v` is the number that the bytes so far spell, all of them digits, and at most `high`. Assumes nothing.
+use Prim.Native.Nat.{◌≤◌}
 use Rattle.lines.proofs.value.DecimalLaws.{Reading}
 use Rattle.lines.proofs.value.decimal.Given as goal
 
-abbrev pub invariant-loop-i : goal.invariant-loop-i
-invariant-loop-i l = (l.i ≤ length l.l) × (l.v ≤ l.high) × Reading l.l l.i l.v
-
-abbrev pub decreases-loop-i : goal.decreases-loop-i
-decreases-loop-i l = length l.l - l.i
+abbrev pub invariant-loop-c : goal.invariant-loop-c
+invariant-loop-c l = (l.v ≤ l.high) × Reading l.l l.c-index l.v

@@ -1,4 +1,3 @@
--- `covering::covers` meets its contract: the witness has no byte exactly where there is none. Assumes nothing.
 use Rattle.topics.specs.Covering.{covers}
 use Rattle.topics.proofs.covering.WitnessLaws.{witness_none}
 use Rattle.topics.proofs.covering.covers.Goals as goal

@@ -1,11 +1,8 @@
--- `covering::first_cut` meets its contract. The invariant: the first of the tries that are left is the first of all five. The measure is how many are left. Assumes nothing.
-use Rattle.std.proofs.Common.{◌≡◌}
+-- `covering::first_cut` meets its contract. The invariant: the first of the tries that are left is the first of all five. Assumes nothing.
+use Rattle.std.proofs.Common.{◌≡◌, ◌-◌}
 use Rattle.topics.specs.Covering.{only_later, first_cut}
 use Rattle.topics.proofs.covering.first_cut.Given as goal
 
-abbrev pub invariant-loop-left : goal.invariant-loop-left
-invariant-loop-left l =
-    first_cut (only_later l.empty_last l.dollar l.earlier l.later) l.left l.name ≡ first_cut (only_later l.empty_last l.dollar l.earlier l.later) 5 l.name
-
-abbrev pub decreases-loop-left : goal.decreases-loop-left
-decreases-loop-left l = l.left
+abbrev pub invariant-loop-longer : goal.invariant-loop-longer
+invariant-loop-longer l =
+    first_cut (only_later l.empty_last l.dollar l.earlier l.later) (5 - l.longer) l.name ≡ first_cut (only_later l.empty_last l.dollar l.earlier l.later) 5 l.name

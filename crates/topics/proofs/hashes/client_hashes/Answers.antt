@@ -1,10 +1,9 @@
--- `hashes::client_hashes` meets its contract, for an empty client id and for any other. Assumes nothing.
-use Rattle.std.proofs.Common.{sym}
+use Rattle.std.proofs.Common.{sym, rules, tests}
 use Rattle.topics.proofs.hashes.HashLaws.{client_none, client_some}
 use Rattle.topics.proofs.hashes.client_hashes.Goals as goal
 
-pub returns-then-client_id-eq0 : goal.returns-then-client_id-eq0
-returns-then-client_id-eq0 c = sym (client_none _ c.if-client_id-eq0.true)
+pub returns-then-is_empty : goal.returns-then-is_empty
+returns-then-is_empty c = sym (client_none _ (search (rules, tests)))
 
 pub returns : goal.returns
-returns c = cc (client_some _ c.if-client_id-eq0.false)
+returns c = rw (c.fnv1a_hash.ensures, c.djb2_hash.ensures) (sym (client_some _ (search (rules, tests))))

@@ -1,14 +1,11 @@
-use Rattle.std.proofs.Common.{sym, ◌∙◌, arith}
-use Rattle.topics.proofs.names.NameLaws.{bad_at, bad_end}
+use Rattle.std.proofs.Common.{rules, tests, sym, ◌∙◌, [], ◌∷◌}
+use Rattle.std.proofs.lemmas.Iterator.Search.{any_from_yields_List}
+use Rattle.std.proofs.lemmas.Iterator.{YieldsList-from_slice}
+use Rattle.topics.specs.Names.{bad_publish}
+use Rattle.topics.proofs.names.NameLaws.{bad_any}
 use Rattle.topics.proofs.names.contains_invalid_publish_char.Goals as goal
 
-pub returns-then-is_bad_byte : goal.returns-then-is_bad_byte
-returns-then-is_bad_byte c =
-    sym (sym c.loop-i.invariant.1 ∙ bad_at _ c.loop-i-test.true ∙ rw (sym c.is_bad_byte.ensures ∙ c.if-is_bad_byte.true))
-
-pub loop-i-preserved : goal.loop-i-preserved
-loop-i-preserved c =
-    (omega arith, sym (bad_at _ c.loop-i-test.true ∙ rw (sym c.is_bad_byte.ensures ∙ c.if-is_bad_byte.false)) ∙ c.loop-i.invariant.1)
-
 pub returns : goal.returns
-returns c = sym (sym c.loop-i.invariant.1 ∙ bad_end _ c.loop-i-test.false)
+returns c =
+    any_from_yields_List (λ b. bad_publish (b ∷ [])) _ _ c.any.result c.any.ensures.ran (YieldsList-from_slice c.args.topic.now (cc)) (λ x b q k. search (rules, tests))
+    ∙ sym (bad_any _)

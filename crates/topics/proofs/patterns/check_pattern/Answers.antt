@@ -1,5 +1,5 @@
 -- `patterns::check_pattern` meets its contract: the tests that a taken pattern passes are those of the definition. Assumes nothing.
-use Rattle.std.proofs.Common.{◌≡◌, ℕ, true, false, List, sym, ◌∙◌, arith}
+use Rattle.std.proofs.Common.{◌≡◌, ℕ, true, false, List, sym, ◌∙◌, arith, rules, tests}
 use Rattle.slices.specs.Bytes.{has}
 use Rattle.topics.specs.Utf8.{is_utf8}
 use Rattle.topics.proofs.patterns.PatternLaws.{refused_valid}
@@ -24,7 +24,7 @@ pub returns-then-not-validate_mqtt_wildcard : goal.returns-then-not-validate_mqt
 returns-then-not-validate_mqtt_wildcard c =
     let valid = sym c.validate_mqtt_wildcard.ensures ∙ c.if-not-validate_mqtt_wildcard.true in
     rw (
-      refused_valid (pattern_at (goal.at.returns-then-not-validate_mqtt_wildcard c).Else-has_byte) (omega arith) (omega arith)
+      refused_valid (pattern_at (goal.at.returns-then-not-validate_mqtt_wildcard c).Else-has_byte) (search (rules, tests)) (omega arith)
           (cleared (goal.at.returns-then-not-validate_mqtt_wildcard c).Else-has_byte)
           (told (goal.at.returns-then-not-validate_mqtt_wildcard c).Else-not-is_utf8) (omega arith),
       valid,
@@ -34,7 +34,7 @@ pub returns : goal.returns
 returns c =
     let valid = sym c.validate_mqtt_wildcard.ensures ∙ c.if-not-validate_mqtt_wildcard.false in
     rw (
-      refused_valid (pattern_at (goal.at.returns c).Else-has_byte) (omega arith) (omega arith) (cleared (goal.at.returns c).Else-has_byte)
+      refused_valid (pattern_at (goal.at.returns c).Else-has_byte) (search (rules, tests)) (omega arith) (cleared (goal.at.returns c).Else-has_byte)
           (told (goal.at.returns c).Else-not-is_utf8) (omega arith),
       valid,
     )

@@ -1,12 +1,10 @@
-use Rattle.std.proofs.Common.{arith}
-use Rattle.topics.proofs.utf8.AsciiLaws.{ascii_on, ascii_stop, ascii_done}
+use Rattle.std.proofs.Common.{rules, tests, ◌∙◌, not, nat_lt}
+use Rattle.std.proofs.lemmas.Iterator.Search.{position_from_yields_List}
+use Rattle.std.proofs.lemmas.Iterator.{YieldsList-from_slice}
+use Rattle.topics.proofs.utf8.AsciiLaws.{ascii_position}
 use Rattle.topics.proofs.utf8.ascii_end.Goals as goal
 
-pub returns-then-s-i-ge128 : goal.returns-then-s-i-ge128
-returns-then-s-i-ge128 c = record { value = ascii_stop _ c.loop-i.invariant.1 c.loop-i-test.true c.if-s-i-ge128.true; within = omega arith }
-
-pub loop-i-preserved : goal.loop-i-preserved
-loop-i-preserved c = (omega arith, ascii_on _ c.loop-i.invariant.1 c.loop-i-test.true c.if-s-i-ge128.false)
-
-pub returns : goal.returns
-returns c = record { value = ascii_done _ c.loop-i.invariant.1 c.loop-i.invariant.0 c.loop-i-test.false; within = omega arith }
+pub returns-clause-value : goal.returns-clause-value
+returns-clause-value c =
+    let h = position_from_yields_List (λ b. not (nat_lt b 0x80)) _ _ c.position.result c.position.ensures.ran (YieldsList-from_slice c.args.s.now (cc)) (λ x b q k. search (rules, tests)) in
+    c.unwrap_or.ensures ∙ rw h (ascii_position c.args.s.now)
