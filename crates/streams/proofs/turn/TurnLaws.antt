@@ -72,7 +72,3 @@ pub came_fits : (z error : ℤ) (m n : ℕ) → m ≡ n → Fits (turn_of z erro
 unfolding turn_of
 came_fits (pos k) error m n e = omega (arith, e)
 came_fits (negsuc k) error m n e = missed_fits error n
-
--- what a call moved of a list from `n` on lies within the list
-pub moved_within : (t : Turn) (k n : ℕ) (l : List ℕ) → n ≤ length l → t ≡ Moved k → Fits t (length (take (length l - n) (drop n l))) → n + k ≤ length l
-moved_within t k n l h e f = let g : k ≤ length (take (length l - n) (drop n l)) = rw e at f in omega (arith, h, g, mid_len n (length l) l (omega arith))
