@@ -9,7 +9,7 @@ use lib.Seq.{sets, sets-eq, length-sets, take-append_seam, length-take-le}
 use Rattle.io.specs.Counts.{IsPrefixLen}
 use Rattle.io.proofs.Counting.{prefix_len_of_le}
 use Rattle.streams.specs.Turns.{DoneWithin}
-use Rattle.std.proofs.Common.{Result, Ok, Err, ℤ}
+use Rattle.std.proofs.Common.{Result, Ok, ℤ}
 
 -- a text that was stored at the beginning of a list that has room for it: its bytes are counted, and they are the list's first
 pub stored : (d t : List ℕ) → length t ≤ length d → IsPrefixLen (length t) (sets d 0 t) × (take (length t) (sets d 0 t) ≡ t)
