@@ -9,12 +9,11 @@ use Rattle.monitor.specs.declared.state.MqttMonitor.{MqttMonitor}
 use Rattle.queue.specs.Queue.{Wake, wake_of, records_of, sent_of, queue_end, queue_kept}
 use Rattle.queue.specs.declared.run.QueueEnd.{QueueEnd}
 use Rattle.queue.proofs.Singly.{as_singly}
-use Rattle.streams.specs.declared.turn.Done.{Done}
-use Rattle.streams.specs.declared.turn.Done.TheVariants.{Bytes}
+use Rattle.std.proofs.Common.{Result, Ok, Err, ℤ}
 use Rattle.streams.proofs.StreamLaws.{stored}
 use Rattle.hubpackets.specs.Inspected.{end_to, records_to}
 
-module _ (m : MqttMonitor) (s : List ℕ) (time : ℕ) (ok : Bool) (d : List ℕ) (read : Done) (k : ℕ) (e : read ≡ Bytes k) where
+module _ (m : MqttMonitor) (s : List ℕ) (time : ℕ) (ok : Bool) (d : List ℕ) (read : Result ℕ ℤ) (k : ℕ) (e : read ≡ Ok k) where
   abbrev wake : Wake
   wake = wake_of (take k s) time ok (length d)
 

@@ -7,14 +7,13 @@ ghost use Rattle.hubpackets.specs.Inspected.{loaded_from, end_to, records_to};
 use monitor::state::MqttMonitor;
 use queue::run::{QueueEnd, run_packets};
 use settings::load::{LoadedSettings, load_settings};
-use streams::turn::Done;
 
 // The settings text that was read, loaded.
-pub(crate) fn load_read(read: Done, text: &[u8]) -> LoadedSettings
+pub(crate) fn load_read(read: Result<usize, i32>, text: &[u8]) -> LoadedSettings
     requires { DoneWithin read (length text.now) }
     ensures { result ≡ loaded_from read text.now }
 {
-    let Done::Bytes(n) = read else {
+    let Ok(n) = read else {
         return load_settings(b"");
     };
     load_settings(&text[..n])
@@ -23,7 +22,7 @@ pub(crate) fn load_read(read: Done, text: &[u8]) -> LoadedSettings
 // The records of the capture that was read, at the beginning of `out`, and how its run ended.
 pub(crate) fn run_read(
     monitor: MqttMonitor,
-    read: Done,
+    read: Result<usize, i32>,
     capture: &[u8],
     at: u64,
     ok: bool,
@@ -34,7 +33,7 @@ pub(crate) fn run_read(
     ensures counted { IsPrefixLen result.length out.new }
     ensures records { take result.length out.new ≡ records_to monitor at ok (length out.old) read capture.now }
 {
-    let Done::Bytes(n) = read else {
+    let Ok(n) = read else {
         return QueueEnd {
             number: 0,
             place: 0,

@@ -18,7 +18,6 @@ use monitor::state::MqttMonitor;
 use packets::packet::read_packet;
 use packets_text::written::packet_lines;
 use streams::descriptor::Descriptor;
-use streams::turn::Done;
 use streams::{input, output, said};
 
 // Standard error.
@@ -75,13 +74,13 @@ fn refuse(number: u32, line: u64) {
 }
 
 // Reads a capture; or says what failed.
-fn read_capture(rt: &HostRuntime, capture: &mut [u8]) -> Done
+fn read_capture(rt: &HostRuntime, capture: &mut [u8]) -> Result<usize, i32>
     ensures { DoneWithin result (length capture.new) }
 {
     let read = input::read_all(&mut rt.stdin(), capture);
     let n = match read {
-        Done::Bytes(n) => n,
-        Done::Failed(error) => {
+        Ok(n) => n,
+        Err(error) => {
             said::fail(
                 rt,
                 "hubpackets: the capture could not be read, so nothing was written",
@@ -95,9 +94,9 @@ fn read_capture(rt: &HostRuntime, capture: &mut [u8]) -> Done
             STDERR_FILENO,
             b"hubpackets: the capture has more than 1,048,576 bytes; cut it where a packet begins\n",
         );
-        return Done::Failed(0);
+        return Err(0);
     }
-    Done::Bytes(n)
+    Ok(n)
 }
 
 // The lines of packet after packet, up to the capture's end or to the first that is refused.
@@ -115,7 +114,7 @@ fn packets_of(rt: &HostRuntime, bytes: &[u8], at: u64, ok: bool, out: &mut [u8])
             return;
         }
         let written = output::write_all(&mut rt.stdout(), &out[..lines.length]);
-        if let Done::Failed(error) = written {
+        if let Err(error) = written {
             said::fail(rt, "hubpackets: the lines were not written whole", error);
             return;
         }
@@ -126,7 +125,7 @@ fn packets_of(rt: &HostRuntime, bytes: &[u8], at: u64, ok: bool, out: &mut [u8])
 // Reads a capture, and writes its lines; or says what failed.
 fn tell(rt: &HostRuntime, capture: &mut [u8], at: u64, ok: bool) {
     let read = read_capture(rt, capture);
-    let Done::Bytes(n) = read else {
+    let Ok(n) = read else {
         return;
     };
     let mut out = lines_buffer();
@@ -136,13 +135,13 @@ fn tell(rt: &HostRuntime, capture: &mut [u8], at: u64, ok: bool) {
 // Reads a capture, and writes the records of its messages under a monitor, up to the capture's end or to the packet at which the run ends; or says what failed.
 fn inspect(rt: &HostRuntime, monitor: MqttMonitor, capture: &mut [u8], at: u64, ok: bool) {
     let read = read_capture(rt, capture);
-    if let Done::Failed(_) = read {
+    if let Err(_) = read {
         return;
     }
     let mut out = records_buffer();
     let end = run_read(monitor, read, capture, at, ok, &mut out);
     let written = output::write_all(&mut rt.stdout(), &out[..end.length]);
-    if let Done::Failed(error) = written {
+    if let Err(error) = written {
         said::fail(rt, "hubpackets: the records were not written whole", error);
         return;
     }
@@ -157,7 +156,7 @@ fn inspect_under(rt: &HostRuntime, capture: &mut [u8], at: u64, ok: bool) {
     let mut text = text_buffer();
     let mut settings = Descriptor::new(rt, SETTINGS_FILENO);
     let read = input::read_all(&mut settings, &mut text);
-    if let Done::Failed(error) = read {
+    if let Err(error) = read {
         said::fail(
             rt,
             "hubpackets: the settings text could not be read, so nothing was written",

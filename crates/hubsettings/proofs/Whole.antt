@@ -11,8 +11,7 @@ use Rattle.settings.specs.Told.{told_text, turned_text, told_room, told_end, tur
 use Rattle.settings.proofs.dead.ToldDead.{dead_long, pair_long}
 use Rattle.settings.proofs.told.TellLaws.{told_long}
 use Rattle.settings.proofs.told.TurnLaws.{turned_long}
-use Rattle.streams.specs.declared.turn.Done.{Done}
-use Rattle.streams.specs.declared.turn.Done.TheVariants.{Bytes}
+use Rattle.std.proofs.Common.{Result, Ok, Err, ℤ}
 use Rattle.streams.proofs.StreamLaws.{stored}
 use Rattle.hubsettings.specs.Answered.{answer_to, dead_to, pair_to, turn_to, turn_end}
 
@@ -24,7 +23,7 @@ module _ (d t : List ℕ) {n : ℕ} (h : told_room ≡ length d) (few : told_roo
       let fits : length t ≤ length d = omega (arith, few room, h) in
       rw (e room, le-leb _ _ room) (stored d t fits)
 
-module _ (d s : List ℕ) (r : Done) (k : ℕ) (h : told_room ≡ length d) (e : r ≡ Bytes k) where
+module _ (d s : List ℕ) (r : Result ℕ ℤ) (k : ℕ) (h : told_room ≡ length d) (e : r ≡ Ok k) where
   pub answered_whole : (told_room ≤ length d → length (told_text (take k s)) ≤ told_room)
       → IsPrefixLen (told_end (length d) (take k s)).length (told_kept d (take k s)) × (take (told_end (length d) (take k s)).length (told_kept d (take k s)) ≡ answer_to r s)
   unfolding answer_to told_kept

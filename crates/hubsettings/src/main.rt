@@ -16,7 +16,6 @@ ghost use Rattle.hubsettings.specs.Answered.{answer_to, dead_to, pair_to, turn_t
 use asked::Asked;
 use settings::dead::{tell_dead, tell_pair};
 use settings::told::{SettingsTold, tell_settings, turn_settings};
-use streams::turn::Done;
 use streams::{input, output, said};
 
 // Standard error.
@@ -40,13 +39,13 @@ fn answer_buffer() -> [u8; 16384]
 }
 
 // What is told of the text that was read, at the beginning of `out`, and its length. There is room for all of it, so 28 never happens. A failed read is not answered.
-fn answer(read: Done, text: &[u8], out: &mut [u8]) -> usize
+fn answer(read: Result<usize, i32>, text: &[u8], out: &mut [u8]) -> usize
     requires done_within { DoneWithin read (length text.now) }
     requires room { told_room ≡ length out.old }
     ensures prefix_len { IsPrefixLen result out.new }
     ensures out_after { take result out.new ≡ answer_to read text.now }
 {
-    let Done::Bytes(n) = read else {
+    let Ok(n) = read else {
         return 0;
     };
     let told = tell_settings(&text[..n], out);
@@ -54,13 +53,13 @@ fn answer(read: Done, text: &[u8], out: &mut [u8]) -> usize
 }
 
 // The rules of the text that was read that can never speak, likewise.
-fn answer_dead(read: Done, text: &[u8], out: &mut [u8]) -> usize
+fn answer_dead(read: Result<usize, i32>, text: &[u8], out: &mut [u8]) -> usize
     requires done_within { DoneWithin read (length text.now) }
     requires room { told_room ≡ length out.old }
     ensures prefix_len { IsPrefixLen result out.new }
     ensures out_after { take result out.new ≡ dead_to read text.now }
 {
-    let Done::Bytes(n) = read else {
+    let Ok(n) = read else {
         return 0;
     };
     let told = tell_dead(&text[..n], out);
@@ -68,13 +67,13 @@ fn answer_dead(read: Done, text: &[u8], out: &mut [u8]) -> usize
 }
 
 // What stands between two of its rules, likewise.
-fn answer_pair(later: u64, earlier: u64, read: Done, text: &[u8], out: &mut [u8]) -> usize
+fn answer_pair(later: u64, earlier: u64, read: Result<usize, i32>, text: &[u8], out: &mut [u8]) -> usize
     requires done_within { DoneWithin read (length text.now) }
     requires room { told_room ≡ length out.old }
     ensures prefix_len { IsPrefixLen result out.new }
     ensures out_after { take result out.new ≡ pair_to later earlier read text.now }
 {
-    let Done::Bytes(n) = read else {
+    let Ok(n) = read else {
         return 0;
     };
     let told = tell_pair(&text[..n], later, earlier, out);
@@ -82,14 +81,14 @@ fn answer_pair(later: u64, earlier: u64, read: Done, text: &[u8], out: &mut [u8]
 }
 
 // The text that was read in a form, or how it is refused, at the beginning of `out`, and how that ended. 28 never happens here either.
-fn turn(form: u32, read: Done, text: &[u8], out: &mut [u8]) -> SettingsTold
+fn turn(form: u32, read: Result<usize, i32>, text: &[u8], out: &mut [u8]) -> SettingsTold
     requires done_within { DoneWithin read (length text.now) }
     requires room { told_room ≡ length out.old }
     ensures value { result ≡ turn_end form told_room read text.now }
     ensures prefix_len { IsPrefixLen result.length out.new }
     ensures out_after { take result.length out.new ≡ turn_to form read text.now }
 {
-    let Done::Bytes(n) = read else {
+    let Ok(n) = read else {
         return SettingsTold {
             number: 0,
             line: 0,
@@ -102,16 +101,16 @@ fn turn(form: u32, read: Done, text: &[u8], out: &mut [u8]) -> SettingsTold
 // Writes the answer, and says so where that failed.
 fn print(rt: &HostRuntime, answer: &[u8]) {
     let written = output::write_all(&mut rt.stdout(), answer);
-    if let Done::Failed(error) = written {
+    if let Err(error) = written {
         said::fail(rt, "hubsettings: the answer was not written whole", error);
     }
 }
 
 // Writes the answer to a text that was read; or says that it was not.
-fn finish(rt: &HostRuntime, read: Done, answer: &[u8]) {
+fn finish(rt: &HostRuntime, read: Result<usize, i32>, answer: &[u8]) {
     match read {
-        Done::Failed(error) => said::fail(rt, UNREAD, error),
-        Done::Bytes(_) => print(rt, answer),
+        Err(error) => said::fail(rt, UNREAD, error),
+        Ok(_) => print(rt, answer),
     }
 }
 
@@ -148,7 +147,7 @@ fn convert(rt: &HostRuntime, form: u32) {
     let read = input::read_all(&mut rt.stdin(), &mut text);
     let mut out = answer_buffer();
     let end = turn(form, read, &text, &mut out);
-    if let Done::Failed(error) = read {
+    if let Err(error) = read {
         said::fail(rt, UNREAD, error);
         return;
     }

@@ -13,8 +13,7 @@ use Rattle.trace.proofs.Bound.{trace_enough}
 use Rattle.io.specs.Counts.{IsPrefixLen}
 use Rattle.hubtrace.specs.Answered.{answer_to, standing_after}
 use Rattle.streams.proofs.StreamLaws.{stored}
-use Rattle.streams.specs.declared.turn.Done.{Done}
-use Rattle.streams.specs.declared.turn.Done.TheVariants.{Bytes}
+use Rattle.std.proofs.Common.{Result, Ok, Err, ℤ}
 
 module _ (matching : Matching) (d s : List ℕ) (h : enough ≡ length d) where
   whole : IsPrefixLen (trace_end matching (length d) s).length (trace_kept matching d s) × (take (trace_end matching (length d) s).length (trace_kept matching d s) ≡ trace_text matching s)
@@ -31,7 +30,7 @@ module _ (matching : Matching) (d s : List ℕ) (h : enough ≡ length d) where
       let fits : length (standing_text matching s) ≤ length d = omega (arith, few, h) in
       rw (le-leb _ _ fits) (stored d (standing_text matching s) fits)
 
-module _ (matching : Matching) (d s : List ℕ) (r : Done) (k : ℕ) (h : enough ≡ length d) (e : r ≡ Bytes k) where
+module _ (matching : Matching) (d s : List ℕ) (r : Result ℕ ℤ) (k : ℕ) (h : enough ≡ length d) (e : r ≡ Ok k) where
   pub answered_whole : IsPrefixLen (trace_end matching (length d) (take k s)).length (trace_kept matching d (take k s))
       × (take (trace_end matching (length d) (take k s)).length (trace_kept matching d (take k s)) ≡ answer_to matching r s)
   unfolding answer_to

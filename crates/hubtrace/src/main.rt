@@ -13,7 +13,6 @@ ghost use Rattle.hubtrace.specs.Answered.{answer_to, standing_after};
 ghost use Rattle.streams.specs.Turns.{DoneWithin};
 
 use asked::Asked;
-use streams::turn::Done;
 use streams::{input, output, said};
 use topics::matching::Matching;
 use trace::{run, standing};
@@ -36,13 +35,13 @@ fn answer_buffer() -> [u8; 786432]
 }
 
 // The answer to what was read at the beginning of `out`, and its length. There is room for all of it, so 28 never happens. A failed read is not answered.
-fn answer(matching: Matching, read: Done, text: &[u8], out: &mut [u8]) -> usize
+fn answer(matching: Matching, read: Result<usize, i32>, text: &[u8], out: &mut [u8]) -> usize
     requires done_within { DoneWithin read (length text.now) }
     requires room { enough ≡ length out.old }
     ensures prefix_len { IsPrefixLen result out.new }
     ensures out_after { take result out.new ≡ answer_to matching read text.now }
 {
-    let Done::Bytes(n) = read else {
+    let Ok(n) = read else {
         return 0;
     };
     let end = run::run_trace_by(&text[..n], matching, out);
@@ -50,13 +49,13 @@ fn answer(matching: Matching, read: Done, text: &[u8], out: &mut [u8]) -> usize
 }
 
 // Where the limit stands after it, in the same way; there is room for all of that too.
-fn stand(matching: Matching, read: Done, text: &[u8], out: &mut [u8]) -> usize
+fn stand(matching: Matching, read: Result<usize, i32>, text: &[u8], out: &mut [u8]) -> usize
     requires done_within { DoneWithin read (length text.now) }
     requires room { enough ≡ length out.old }
     ensures prefix_len { IsPrefixLen result out.new }
     ensures out_after { take result out.new ≡ standing_after matching read text.now }
 {
-    let Done::Bytes(n) = read else {
+    let Ok(n) = read else {
         return 0;
     };
     let end = standing::write_standing(&text[..n], matching, out);
@@ -66,7 +65,7 @@ fn stand(matching: Matching, read: Done, text: &[u8], out: &mut [u8]) -> usize
 // Writes the answer, and says so where that failed.
 fn print(rt: &HostRuntime, answer: &[u8]) {
     let written = output::write_all(&mut rt.stdout(), answer);
-    if let Done::Failed(error) = written {
+    if let Err(error) = written {
         said::fail(rt, "hubtrace: the answer was not written whole", error);
     }
 }
@@ -78,12 +77,12 @@ fn run(rt: &HostRuntime, matching: Matching, standing: bool) {
     let mut out = answer_buffer();
     let length = answer(matching, read, &text, &mut out);
     match read {
-        Done::Failed(error) => said::fail(
+        Err(error) => said::fail(
             rt,
             "hubtrace: the trace could not be read, so nothing was answered",
             error,
         ),
-        Done::Bytes(_) => print(rt, &out[..length]),
+        Ok(_) => print(rt, &out[..length]),
     }
     if standing {
         let more = stand(matching, read, &text, &mut out);

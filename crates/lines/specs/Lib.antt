@@ -2,7 +2,6 @@ pub mod Decimal
 pub mod Field
 pub mod Hex
 pub mod Line
-pub mod Part
 pub mod ReadDecimal
 pub mod ReadHex
 pub mod ReadWord

@@ -51,6 +51,5 @@ pub fn flag_line_len(key: &[u8]) -> usize
 pub fn word_line_len(key: &[u8], words: &[u8], k: usize) -> usize
     ensures { result ≡ capped (length (word_line key.now words.now k)) }
 {
-    let part = word_part(words, k);
-    line_len(key.len(), part.to - part.from)
+    line_len(key.len(), word_part(words, k).len())
 }

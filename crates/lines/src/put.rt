@@ -85,8 +85,7 @@ pub fn put_flag(out: &mut [u8], at: usize, on: bool) -> usize
 pub fn put_word(out: &mut [u8], at: usize, words: &[u8], k: usize) -> usize
     ensures { Wrote out.old out.new at (word_text words.now k) result }
 {
-    let part = word_part(words, k);
-    put_bytes(out, at, &words[part.from..part.to])
+    put_bytes(out, at, word_part(words, k))
 }
 
 // The LF that ends a line.

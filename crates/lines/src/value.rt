@@ -7,8 +7,6 @@ ghost use Rattle.lines.specs.ReadDecimal.{digit_fits, no_spare_zero, decimal_of}
 ghost use Rattle.lines.specs.ReadHex.{is_hex, hex_value, hex_refusal, unhex, hex_into};
 ghost use Rattle.lines.specs.ReadWord.{word_of};
 
-use slices::bytes::{find_byte, same_bytes};
-
 // What a value's bytes gave: the number that they spell, or none.
 #[derive(Clone, Copy, Debug, PartialEq, Eq)]
 pub enum Number {
@@ -64,18 +62,9 @@ pub fn decimal(l: &[u8], low: u64, high: u64) -> Number
 pub fn word(words: &[u8], l: &[u8]) -> Number
     ensures { result ≡ word_of words.now l.now }
 {
-    let mut from = 0;
-    let mut k: u64 = 0;
-    loop {
-        let to = find_byte(words, from, b'|');
-        if same_bytes(&words[from..to], l) {
-            return Number::Value(k);
-        }
-        if words.len() <= to {
-            return Number::Bad;
-        }
-        from = to + 1;
-        k += 1;
+    match words.split(|b| *b == b'|').position(|word| word == l) {
+        Some(k) => Number::Value(k as u64),
+        None => Number::Bad,
     }
 }
 

@@ -1,9 +1,7 @@
 -- What a program makes of the C library's answers to `read` and `write`: which calls are made again, and what it may call all of an input or an output.
-use Rattle.std.specs.Prelude.{ℕ, ◌≤◌, min, ◌≡◌, cond, ◌||◌, ◌==◌, ℤ, pos, negsuc}
+use Rattle.std.specs.Prelude.{ℕ, ◌≤◌, min, ◌≡◌, cond, ◌||◌, ◌==◌, ℤ, pos, negsuc, Result, IfOk}
 use Rattle.streams.specs.declared.turn.Turn.{Turn}
 use Rattle.streams.specs.declared.turn.Turn.TheVariants as turn
-use Rattle.streams.specs.declared.turn.Done.{Done}
-use Rattle.streams.specs.declared.turn.Done.TheVariants as done
 
 -- a call that moved nothing, by errno: 4 is EINTR, a signal came first; 11 is EAGAIN, the pipe was not ready. Any other is a failure
 unfoldable pub missed_of : ℤ → Turn
@@ -22,11 +20,9 @@ Fits turn.Again n = Unit {0}
 Fits (turn.Failed error) n = Unit {0}
 
 -- an input of no more bytes than there was room for, or none
-abbrev pub DoneWithin : Done → ℕ → Type 0
-DoneWithin (done.Bytes k) n = k ≤ n
-DoneWithin (done.Failed error) n = Unit {0}
+abbrev pub DoneWithin : Result ℕ ℤ → ℕ → Type 0
+DoneWithin r n = IfOk r (λ k. k ≤ n)
 
 -- an output of which every byte was taken, or a failed one
-abbrev pub Whole : Done → ℕ → Type 0
-Whole (done.Bytes k) n = k ≡ n
-Whole (done.Failed error) n = Unit {0}
+abbrev pub Whole : Result ℕ ℤ → ℕ → Type 0
+Whole r n = IfOk r (λ k. k ≡ n)

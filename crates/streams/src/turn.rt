@@ -12,13 +12,6 @@ pub enum Turn {
     Failed(i32),
 }
 
-// How a whole input or output went: so many bytes and all of them, or it failed on the way, with errno.
-#[derive(Clone, Copy, Debug, PartialEq, Eq)]
-pub enum Done {
-    Bytes(usize),
-    Failed(i32),
-}
-
 // Turns that no run uses up: a loop has to end, and nothing says that a pipe ever takes or gives a byte.
 pub const PATIENCE: u64 = u64::MAX;
 

@@ -2,4 +2,4 @@
 use Rattle.hubpackets.proofs.read_capture.Goals as goal
 
 pub returns : goal.returns
-returns c = rw c.in-Bytes.is at c.read_all-read.ensures
+returns c = rw c.in-Ok.is at c.read_all-read.ensures

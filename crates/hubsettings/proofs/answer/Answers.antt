@@ -10,9 +10,9 @@ unfolding answer_to
 returns-in_default c = search rules
 
 pub slice_bounds-tell_settings-end : goal.slice_bounds-tell_settings-end
-slice_bounds-tell_settings-end c = read_part _ _ _ c.in-Bytes.is c.requires.done_within
+slice_bounds-tell_settings-end c = read_part _ _ _ c.in-Ok.is c.requires.done_within
 
 pub returns : goal.returns
 returns c =
     rw (c.tell_settings-told.ensures.answer, c.tell_settings-told.ensures.buffer)
-    (let h = answered_whole _ _ _ _ c.requires.room c.in-Bytes.is c.tell_settings-told.ensures.enough in record { prefix_len = h.0; out_after = h.1 })
+    (let h = answered_whole _ _ _ _ c.requires.room c.in-Ok.is c.tell_settings-told.ensures.enough in record { prefix_len = h.0; out_after = h.1 })

@@ -10,9 +10,9 @@ unfolding dead_to
 returns-in_default c = search rules
 
 pub slice_bounds-tell_dead-end : goal.slice_bounds-tell_dead-end
-slice_bounds-tell_dead-end c = read_part _ _ _ c.in-Bytes.is c.requires.done_within
+slice_bounds-tell_dead-end c = read_part _ _ _ c.in-Ok.is c.requires.done_within
 
 pub returns : goal.returns
 returns c =
     rw (c.tell_dead-told.ensures.answer, c.tell_dead-told.ensures.buffer)
-    (let h = dead_whole _ _ _ _ c.requires.room c.in-Bytes.is c.tell_dead-told.ensures.enough in record { prefix_len = h.0; out_after = h.1 })
+    (let h = dead_whole _ _ _ _ c.requires.room c.in-Ok.is c.tell_dead-told.ensures.enough in record { prefix_len = h.0; out_after = h.1 })

@@ -10,8 +10,8 @@ unfolding answer_to
 returns-in_default c = search rules
 
 pub slice_bounds-run_trace_by-end : goal.slice_bounds-run_trace_by-end
-slice_bounds-run_trace_by-end c = read_part _ _ _ c.in-Bytes.is c.requires.done_within
+slice_bounds-run_trace_by-end c = read_part _ _ _ c.in-Ok.is c.requires.done_within
 
 pub returns : goal.returns
 returns c =
-    rw (c.run_trace_by-end.ensures.end, c.run_trace_by-end.ensures.bytes) (let h = answered_whole _ _ _ _ _ c.requires.room c.in-Bytes.is in record { prefix_len = h.0; out_after = h.1 })
+    rw (c.run_trace_by-end.ensures.end, c.run_trace_by-end.ensures.bytes) (let h = answered_whole _ _ _ _ _ c.requires.room c.in-Ok.is in record { prefix_len = h.0; out_after = h.1 })

@@ -10,9 +10,9 @@ unfolding standing_after
 returns-in_default c = search rules
 
 pub slice_bounds-write_standing-end : goal.slice_bounds-write_standing-end
-slice_bounds-write_standing-end c = read_part _ _ _ c.in-Bytes.is c.requires.done_within
+slice_bounds-write_standing-end c = read_part _ _ _ c.in-Ok.is c.requires.done_within
 
 pub returns : goal.returns
 returns c =
     rw (c.write_standing-end.ensures.end, c.write_standing-end.ensures.bytes)
-    (let h = stands_whole _ _ _ _ _ c.requires.room c.in-Bytes.is c.write_standing-end.ensures.enough in record { prefix_len = h.0; out_after = h.1 })
+    (let h = stands_whole _ _ _ _ _ c.requires.room c.in-Ok.is c.write_standing-end.ensures.enough in record { prefix_len = h.0; out_after = h.1 })

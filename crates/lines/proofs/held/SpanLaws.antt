@@ -1,15 +1,13 @@
 -- Laws of lines: where one begins and ends, for whoever reads it. Assumes nothing.
 use Prim.Native.Nat.{ℕ, ◌≤◌, ◌<◌}
 use mathlib.Core.Path.{◌≡◌}
-use mathlib.Core.Bool.{true, false}
+use mathlib.Core.Bool.{true}
 use mathlib.Core.List.{List}
-use native.Mathlib.Nat.{le_refl, le_of_lt, min-eq_left, min-eq_right}
 use native.Mathlib.Omega.{arith}
-use lib.Dec.{ltb}
 use lib.ListN.{length}
-use borrow.Author.Tests.{le-ltb, ltb-true}
+use borrow.Author.Tests.{ltb-true}
 use Rattle.slices.specs.Bytes.{find_byte}
-use Rattle.slices.proofs.bytes.PlaceLaws.{place_end, place_within}
+use Rattle.slices.proofs.bytes.PlaceLaws.{place_within}
 use Rattle.lines.specs.Span.{span_of}
 
 module _ (s : List ℕ) (at : ℕ) where

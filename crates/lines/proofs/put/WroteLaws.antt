@@ -6,8 +6,8 @@ use mathlib.Core.List.{List, [], ◌∷◌, ◌++◌}
 use native.Mathlib.Omega.{arith}
 use native.Mathlib.Nat.{add-zero, add-suc, suc-add}
 use native.Mathlib.Numerals.{add-one}
-use lib.ListN.{length, set, take, drop, get_or, length-append, take-append-drop}
-use lib.Seq.{sets, length-sets, set_out, take_all, take-suc}
+use lib.ListN.{length, set, take, get_or, length-append}
+use lib.Seq.{sets, length-sets, set_out, take-suc}
 use Rattle.laws.proofs.Cases.{by_le}
 use Rattle.lines.specs.Wrote.{Wrote, place_after}
 

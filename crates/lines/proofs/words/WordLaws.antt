@@ -1,57 +1,60 @@
--- A walk over a list of words, bar by bar (`word_bar`, `word_byte`), ends where the word begins (`word_here`) or at the list's end (`word_past`). From there the word goes on to the next bar
--- (`first_to_bar`), so it is the part between the two places (`word_at`), as long as they are apart (`part_length`). Assumes nothing.
-use Prim.Native.Nat.{ℕ, zero, suc, ◌+◌, ◌-◌, ◌≤◌, ◌<◌}
-use mathlib.Core.Path.{◌≡◌, refl, sym, ap}
-use mathlib.Core.List.{List, [], ◌∷◌}
-use native.Mathlib.Omega.{arith}
-use native.Mathlib.Numerals.{sub-one}
-use borrow.Author.Tests.{eq-eqb, ne_eqb}
-use lib.ListN.{length, take, drop, get_or, drop_of_length-le, length-take, length-drop}
-use lib.Dec.{eqb}
+-- The words of a list are what `split` at its bars gives, and a word's place is where it is first among them. Assumes nothing.
+use Rattle.std.proofs.Common.{◌≡◌, ℕ, Bool, true, false, eqb, cond, ltb, List, [], ◌∷◌, length, get_or, Option, Some, None, position, slice_get, refl, sym, ap, ◌∙◌, arith}
+use Rattle.std.specs.List.{slice_split, position_or_len}
+use Rattle.std.specs.Cmp.Lexicographic.{pointwise}
+use Rattle.std.proofs.lemmas.List.Recursion.{is_position_or_len}
+use Rattle.std.proofs.Common.{Bor}
+use Rattle.std.specs.Option.{unwrap_or, option_map}
+use Rattle.std.proofs.lemmas.Option.{same_Some, unwrap_or-slice_get}
+use Rattle.std.proofs.lemmas.Grind.{common_steps}
 use Rattle.laws.proofs.Cases.{by}
-use Rattle.slices.specs.Bytes.{to_byte, find_byte}
-use Rattle.slices.proofs.bytes.WalkLaws.{opened}
-use Rattle.lines.specs.Word.{first_word, rest_words, word_text}
-use Rattle.lines.specs.Part.{PartIs}
+use Rattle.slices.specs.Bytes.{same}
+use Rattle.slices.proofs.bytes.StdLaws.{same_eq}
+use Rattle.lines.specs.declared.value.Number.TheVariants.{Value, Bad}
+use Rattle.lines.specs.Word.{first_word, rest_words, words_of}
+use Rattle.lines.specs.ReadWord.{word_index, word_of}
 
-module _ (s : List ℕ) (i : ℕ) (h : i < length s) where
-  pub word_bar : (k : ℕ) → (k ≡ 0 → ⊥) → get_or s i 0 ≡ 124 → word_text (drop i s) k ≡ word_text (drop (i + 1) s) (k - 1)
-  unfolding word_text rest_words
-  word_bar zero z e = absurd (z refl)
-  word_bar (suc k) z e = rw (opened s i h, eq-eqb (get_or s i 0) 124 e, rest_words, sub-one)
-
-  pub word_byte : (k : ℕ) → (k ≡ 0 → ⊥) → (get_or s i 0 ≡ 124 → ⊥) → word_text (drop i s) k ≡ word_text (drop (i + 1) s) k
-  unfolding word_text rest_words
-  word_byte zero z e = absurd (z refl)
-  word_byte (suc k) z e = rw (opened s i h, ne_eqb (get_or s i 0) 124 e, rest_words)
-
-pub word_here : (s : List ℕ) {k : ℕ} → k ≡ 0 → first_word s ≡ word_text s k
-unfolding word_text
-word_here s e = rw e
-
-pub word_past : (s : List ℕ) {i : ℕ} (k : ℕ) → length s ≤ i → first_word (drop i s) ≡ word_text (drop i s) k
-unfolding word_text first_word rest_words
-word_past s zero h = refl
-word_past s (suc k) h = rw (drop_of_length-le s h)
-
--- the first word goes to the first bar
-pub first_to_bar : (l : List ℕ) → first_word l ≡ take (to_byte 124 l) l
-unfolding first_word to_byte
-first_to_bar [] = refl
-first_to_bar (c ∷ cs) =
+-- `words.split(|b| *b == b'|')`
+pub words_split : (ws : List ℕ) → slice_split (λ b. eqb b 124) ws ≡ words_of ws
+unfolding first_word rest_words
+words_split [] = refl
+words_split (c ∷ cs) =
     by (eqb c 124)
-    (λ e. rw (e, first_word, to_byte))
-    (λ e. rw (e, first_word, to_byte) (ap (λ (t : List ℕ). c ∷ t) (first_to_bar cs)))
+    (λ e. rw (e, first_word, rest_words, words_split cs))
+    (λ e. rw (e, first_word, rest_words, words_split cs))
 
--- the word that begins at `from` is the part up to the next bar
-pub word_at : {s : List ℕ} (k : ℕ) {from to : ℕ} → from ≤ length s → first_word (drop from s) ≡ word_text s k → to ≡ find_byte 124 s from → to ≤ length s
-    → PartIs s from to (word_text s k)
-unfolding find_byte
-word_at {s} k {from} {to} l e r h =
-    let d : to - from ≡ to_byte 124 (drop from s) = omega arith in
-    record { ordered = omega arith; within = h; part = rw (d, ← first_to_bar (drop from s)) e }
+-- the test that the code makes of each word
+abbrev pub is_word : List ℕ → List ℕ → Bool
+is_word l w = pointwise eqb w l
 
-pub part_length : {s : List ℕ} {from to : ℕ} {t : List ℕ} → PartIs s from to t → length t ≡ to - from
-part_length {s} {from} {to} {t} p =
-    let e : length t ≡ length (take (to - from) (drop from s)) = ap length (sym p.part) in
-    omega (arith, p.ordered, p.within, simp (length-take, length-drop) at e)
+index_of : (l : List ℕ) (ws : List (List ℕ)) → word_index ws l ≡ position_or_len (is_word l) ws
+unfolding word_index
+index_of l = is_position_or_len (λ ws. word_index ws l) (is_word l) refl
+    (λ w ws. by (same w l) (λ e. rw (e, ← same_eq w l, e, word_index)) (λ e. rw (e, ← same_eq w l, e, word_index) (omega arith)))
+
+-- an answer told as an option
+told : (b : Bool) (i : ℕ) (r : Option ℕ) → r ≡ cond b (Some i) None
+    → (r ≡ None → Bad ≡ cond b (Value i) Bad) × ((k : ℕ) → r ≡ Some k → Value k ≡ cond b (Value i) Bad)
+told true i r e = (λ n. absurd (grind (arith, common_steps)), λ k s. ap (λ (m : ℕ). Value m) (same_Some k i (sym s ∙ e)))
+told false i r e = (λ n. refl, λ k s. absurd (grind (arith, common_steps)))
+
+module _ (ws l : List ℕ) {r : Option ℕ} (e : r ≡ position (is_word l) (slice_split (λ b. eqb b 124) ws)) where
+  both_told : (r ≡ None → Bad ≡ word_of ws l) × ((k : ℕ) → r ≡ Some k → Value k ≡ word_of ws l)
+  unfolding word_of
+  both_told =
+      told (ltb (word_index (words_of ws) l) (length (words_of ws))) (word_index (words_of ws) l) r
+      (e ∙ rw (words_split ws, index_of l (words_of ws)))
+
+  -- there is no such word
+  pub word_missing : r ≡ None → Bad ≡ word_of ws l
+  word_missing n = both_told.0 n
+
+  -- it is first at a place
+  pub word_found : (k : ℕ) → r ≡ Some k → Value k ≡ word_of ws l
+  word_found k s = both_told.1 k s
+
+-- what `nth(k).unwrap_or(&[])` reads
+pub nth_or : (o : Option (Bor (List ℕ))) (d : Bor (List ℕ)) (parts : List (List ℕ)) (k : ℕ) → d.now ≡ [] → option_map (λ x. x.now) o ≡ slice_get parts k
+    → (unwrap_or o d).now ≡ get_or parts k []
+nth_or None d parts k z e = z ∙ ap (λ (p : Option (List ℕ)). unwrap_or p []) e ∙ unwrap_or-slice_get parts k []
+nth_or (Some b) d parts k z e = ap (λ (p : Option (List ℕ)). unwrap_or p []) e ∙ unwrap_or-slice_get parts k []

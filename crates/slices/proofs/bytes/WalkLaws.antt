@@ -40,12 +40,3 @@ begins_fits (k ∷ ks) (c ∷ cs) e =
     by (eqb k c)
     (λ t. omega (arith, begins_fits ks cs (rw (t, begins) at e)))
     (λ t. never (rw (t, begins) at e))
-
--- the first byte of a list, where there is one
-pub starts_none : (c : ℕ) (s : List ℕ) → length s ≡ 0 → starts_with c s ≡ false
-starts_none c [] e = refl
-starts_none c (b ∷ s) e = absurd (omega arith)
-
-pub starts_first : (c : ℕ) (s : List ℕ) → (length s ≡ 0 → ⊥) → starts_with c s ≡ eqb (get_or s 0 0) c
-starts_first c [] n = absurd (n refl)
-starts_first c (b ∷ s) n = refl

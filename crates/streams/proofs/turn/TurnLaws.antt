@@ -1,13 +1,10 @@
 -- What `turn_of` says, by the machine's view of its two signed numbers: a local holds their bits, and a test compares those. Assumes nothing.
-use Prim.Native.Nat.{ℕ, ◌+◌, ◌-◌, ◌≤◌}
-use mathlib.Core.List.{List}
+use Prim.Native.Nat.{ℕ}
 use mathlib.Core.Path.{◌≡◌, refl, sym, ap, ◌∙◌}
 use mathlib.Core.Bool.{Bool, true, false, cond, ◌||◌}
 use native.Mathlib.Omega.{arith}
 use borrow.Author.Tests.{ltb-true, ne_eqb}
 use lib.Dec.{eqb}
-use borrow.Rule.Slice.PartMut.{mid_len}
-use lib.ListN.{length, take, drop}
 use lib.IntN.{ℤ, pos, negsuc}
 use lib.Signed.{lt_z}
 use mir.Syntax.{w32, w64}
@@ -72,7 +69,3 @@ pub came_fits : (z error : ℤ) (m n : ℕ) → m ≡ n → Fits (turn_of z erro
 unfolding turn_of
 came_fits (pos k) error m n e = omega (arith, e)
 came_fits (negsuc k) error m n e = missed_fits error n
-
--- what a call moved of a list from `n` on lies within the list
-pub moved_within : (t : Turn) (k n : ℕ) (l : List ℕ) → n ≤ length l → t ≡ Moved k → Fits t (length (take (length l - n) (drop n l))) → n + k ≤ length l
-moved_within t k n l h e f = let g : k ≤ length (take (length l - n) (drop n l)) = rw e at f in omega (arith, h, g, mid_len n (length l) l (omega arith))

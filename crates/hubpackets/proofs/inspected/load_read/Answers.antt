@@ -8,8 +8,8 @@ unfolding loaded_from
 returns-in_default c = rw c.in_default.is c.load_settings.ensures
 
 pub slice_bounds-load_settings-end-2 : goal.slice_bounds-load_settings-end-2
-slice_bounds-load_settings-end-2 c = read_part _ _ _ c.in-Bytes.is c.requires
+slice_bounds-load_settings-end-2 c = read_part _ _ _ c.in-Ok.is c.requires
 
 pub returns : goal.returns
 unfolding loaded_from
-returns c = rw c.in-Bytes.is c.load_settings-2.ensures
+returns c = rw c.in-Ok.is c.load_settings-2.ensures

@@ -10,7 +10,7 @@ unfolding end_to records_to
 returns-in_default c = let failed = c.in_default.is in record { end = rw failed; counted = search rules; records = rw failed }
 
 pub slice_bounds-run_packets-end : goal.slice_bounds-run_packets-end
-slice_bounds-run_packets-end c = read_part _ _ _ c.in-Bytes.is c.requires
+slice_bounds-run_packets-end c = read_part _ _ _ c.in-Ok.is c.requires
 
 pub returns : goal.returns
-returns c = let h = recorded _ _ _ _ c.args.out.now _ _ c.in-Bytes.is c.run_packets.ensures.end c.run_packets.ensures.bytes in record { end = h.0; counted = h.1.0; records = h.1.1 }
+returns c = let h = recorded _ _ _ _ c.args.out.now _ _ c.in-Ok.is c.run_packets.ensures.end c.run_packets.ensures.bytes in record { end = h.0; counted = h.1.0; records = h.1.1 }

@@ -1,30 +1,20 @@
-use Prim.Native.Nat.{◌≤◌}
-use mathlib.Core.Path.{sym, ◌∙◌}
-use native.Mathlib.Omega.{arith}
-use lib.ListN.{length}
-use Rattle.lines.proofs.value.WordLaws.{word_inside, word_found, word_next, word_missing}
-use Rattle.lines.proofs.value.word.Goals.{After-find_byte-to}
+use Rattle.std.proofs.Common.{rules, tests, ◌≡◌, eqb, position}
+use Rattle.std.specs.List.{slice_split}
+use Rattle.std.proofs.lemmas.Iterator.Search.{position_from_yields_List}
+use Rattle.std.proofs.lemmas.Iterator.Splits.{YieldsList-from_slice_split}
+use Rattle.lines.proofs.words.WordLaws.{is_word, word_found, word_missing}
+use Rattle.lines.proofs.value.word.Goals.{After-position}
 use Rattle.lines.proofs.value.word.Goals as goal
 
--- the word's end, seen from where it was found, lies between its start and the list's end
-inside : (c : After-find_byte-to) → (c.loop-from.from ≤ c.find_byte-to.result) × (c.find_byte-to.result ≤ length c.args.words.now)
-inside c = word_inside _ c.loop-from.invariant.0 c.find_byte-to.ensures.value
+-- the place of `l` among the words
+place : (c : After-position) → c.position.result ≡ position (is_word c.args.l.now) (slice_split (λ b. eqb b 124) c.args.words.now)
+place c =
+    position_from_yields_List (is_word c.args.l.now) _ _ c.position.result c.position.ensures.ran
+    (YieldsList-from_slice_split _ (λ b. eqb b 124) c.args.words.now c.split.ensures.rest c.split.ensures.done c.split.ensures.closure (λ x b q k. search (rules, tests)))
+    (λ x b q k. search (rules, tests))
 
-pub returns-then-same_bytes : goal.returns-then-same_bytes
-returns-then-same_bytes c =
-    let inv = c.loop-from.invariant in
-    word_found inv.2 inv.0 c.find_byte-to.ensures.value (sym c.same_bytes.ensures ∙ c.if-same_bytes.true)
+pub returns-in-Some : goal.returns-in-Some
+returns-in-Some c = word_found _ _ (place (goal.at.returns-in-Some c).After-position) _ c.in-Some.is
 
-pub returns-then-words-to : goal.returns-then-words-to
-returns-then-words-to c =
-    let inv = c.loop-from.invariant in
-    word_missing inv.2 inv.0 c.find_byte-to.ensures.value (sym c.same_bytes.ensures ∙ c.if-same_bytes.false) c.if-words-to.true
-
-pub loop-from-preserved : goal.loop-from-preserved
-loop-from-preserved c =
-    let inv = c.loop-from.invariant in
-    let h = inside (goal.at.loop-from-preserved c).After-find_byte-to in (
-      omega arith,
-      omega arith,
-      word_next inv.2 inv.0 c.find_byte-to.ensures.value (sym c.same_bytes.ensures ∙ c.if-same_bytes.false) c.if-words-to.false,
-    )
+pub returns-in-None : goal.returns-in-None
+returns-in-None c = word_missing _ _ (place (goal.at.returns-in-None c).After-position) c.in-None.is
