@@ -29,7 +29,10 @@ abbrev pub told_value : Result ℕ Refusal → Outcome
 told_value (Ok value) = Done value
 told_value (Err e) = Refused (refusal_number e)
 
--- the outcome of a call that hands back nothing
+-- the outcome of a call that hands back nothing, and with it the state that it leaves
 abbrev pub told_done : Result Unit Refusal → Outcome
 told_done (Ok done) = Done 0
 told_done (Err e) = Refused (refusal_number e)
+
+abbrev pub called_as : Result Unit Refusal → MqttMonitor → Called
+called_as r m = record { outcome = told_done r; monitor = m }
