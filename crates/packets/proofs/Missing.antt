@@ -10,12 +10,10 @@ use lib.Seq.{take-append-le, drop-append-le}
 use borrow.Author.Tests.{ltb-false}
 use Rattle.laws.proofs.Cases.{by, by_le, choose}
 use Rattle.lines.specs.Span.{part}
-use Rattle.packets.specs.Header.{byte_at, length_at, type_of, flags_of, body_from, size_of, body_in, header_refusal}
+use Rattle.packets.specs.Header.{byte_at, length_at, type_of, flags_of, body_from, size_of, body_in, header_refusal, ToldLength}
 use Rattle.packets.specs.Messages.{message_from, message_for, message_at}
 use Rattle.packets.specs.Missing.{Missing}
-use Rattle.packets.specs.Packet.{packet_refusal, packet_of, packet_at}
-use Rattle.packets.specs.declared.header.Length.{Length}
-use Rattle.packets.specs.declared.packet.Packet.{Packet}
+use Rattle.packets.specs.Packet.{packet_refusal, packet_of, packet_at, ToldPacket}
 use Rattle.packets.proofs.header.LengthLaws.{there, over_is, short_is, whole_is, length_small}
 use Rattle.packets.proofs.packet.PacketLaws.{body_not_31, by_header, refused_by, header_first, packet_number, packet_none}
 
@@ -28,7 +26,7 @@ module _ (s t : List ℕ) where
   same_length : ((length_at s 1).over ≡ false → body_from s ≤ length s) → length_at (s ++ t) 1 ≡ length_at s 1
   unfolding length_at
   same_length =
-      let P : Length → Type 0 = λ (l : Length). (l.over ≡ false → 1 + l.bytes ≤ length s) → length_at (s ++ t) 1 ≡ l in
+      let P : ToldLength → Type 0 = λ (l : ToldLength). (l.over ≡ false → 1 + l.bytes ≤ length s) → length_at (s ++ t) 1 ≡ l in
       choose P (ltb (byte_at s 1) 128)
       (λ a c. let h : 2 ≤ length s = c refl in rw (same_byte 1 (omega arith), a))
       (λ a.
@@ -120,7 +118,7 @@ module _ (s t : List ℕ) where
 -- the same at a place
 module _ (s t : List ℕ) (place : ℕ) (u : (packet_at s place).number ≡ 31 → ⊥) where
   inside : place ≤ length s
-  inside = by_le place (length s) (λ h. h) (λ h. absurd (u (ap (λ (p : Packet). p.number) (sym (packet_none s {place = place} (omega arith))))))
+  inside = by_le place (length s) (λ h. h) (λ h. absurd (u (ap (λ (p : ToldPacket). p.number) (sym (packet_none s {place = place} (omega arith))))))
 
   number : packet_refusal (drop place s) ≡ 31 → ⊥
   number e = u (packet_number (drop place s) ∙ e)

@@ -16,29 +16,27 @@ use Rattle.packets.specs.Bodies.{is_list, body_built, piece_at, first_step, piec
 use Rattle.packets.specs.Fields.{begin, number_field}
 use Rattle.packets.specs.Filters.{list_built, filter_at, filters_of, walk}
 use Rattle.packets.specs.Header.{length_at, type_of, flags_of, body_from, size_of, body_in, header_refusal}
-use Rattle.packets.specs.Messages.{sent_from, message_from, message_for, message_at, messages_of, messages_at}
+use Rattle.packets.specs.Messages.{sent_from, message_from, message_for, message_at, messages_of, messages_at, ToldMessage}
 use Rattle.packets.specs.Packet.{packet_at}
-use Rattle.packets.specs.Piece.{good_piece, is_long}
+use Rattle.packets.specs.Piece.{good_piece, is_long, ToldPiece}
 use Rattle.packets.specs.Publish.{identified}
 use Rattle.packets.specs.Steps.{stepped, is_listed, Steps}
-use Rattle.packets.specs.declared.messages.PacketMessage.{PacketMessage}
-use Rattle.packets.specs.declared.piece.Piece.{Piece}
 use Rattle.packets.proofs.filters.WalkLaws.{filter_in, filter_further, left_turn, left_last}
 use Rattle.packets.proofs.header.LengthLaws.{length_small}
 use Rattle.packets.proofs.messages.MessageLaws.{piece_fine}
 use Rattle.packets.proofs.packet.AcceptedLaws.{Accepted, accepted, length_is, messages_are, header_there, length_some}
 
 -- a piece that was read and is not long
-abbrev Fit : Piece → Type 0
+abbrev Fit : ToldPiece → Type 0
 Fit p = (p.fine ≡ true) × (p.to - p.from ≤ 128)
 
-fit : (b : List ℕ) (p : Piece) → good_piece b p ≡ true → is_long p ≡ false → Fit p
+fit : (b : List ℕ) (p : ToldPiece) → good_piece b p ≡ true → is_long p ≡ false → Fit p
 unfolding good_piece
 fit b p g l = ((both p.fine _ g).0, ltb-false _ _ l)
 
 -- a first message, and those behind it
-joined : {x y : PacketMessage} (behind : ℕ → List PacketMessage) {ms : List PacketMessage} → x ≡ y → behind y.next ≡ ms → x ∷ behind x.next ≡ y ∷ ms
-joined {y = y} behind e g = rw e (ap (λ (r : List PacketMessage). y ∷ r) g)
+joined : {x y : ToldMessage} (behind : ℕ → List ToldMessage) {ms : List ToldMessage} → x ≡ y → behind y.next ≡ ms → x ∷ behind x.next ≡ y ∷ ms
+joined {y = y} behind e g = rw e (ap (λ (r : List ToldMessage). y ∷ r) g)
 
 -- a list that was found good has a filter behind its identifier
 list_built_lem : (kind flags : ℕ) (b : List ℕ) → is_list kind ≡ true → body_built kind flags b ≡ true → list_built flags b ≡ true
@@ -62,11 +60,11 @@ walk_few : (subscribe : Bool) (b : List ℕ) (k at : ℕ) → every (good_piece 
 unfolding walk every good_piece
 walk_few subscribe b zero at = λ _. omega arith
 walk_few subscribe b (suc k) at =
-    let read : ℕ → Piece = filter_at subscribe b in
+    let read : ℕ → ToldPiece = filter_at subscribe b in
     let i = filter_in subscribe b at in
-    choose (λ (ps : List Piece). every (good_piece b) ps ≡ true → length ps * 2 ≤ length b - at) (leb (length b) at) (λ _ _. omega arith)
+    choose (λ (ps : List ToldPiece). every (good_piece b) ps ≡ true → length ps * 2 ≤ length b - at) (leb (length b) at) (λ _ _. omega arith)
     (λ _.
-    choose (λ (ps : List Piece). every (good_piece b) (read at ∷ ps) ≡ true → length (read at ∷ ps) * 2 ≤ length b - at) (read at).fine
+    choose (λ (ps : List ToldPiece). every (good_piece b) (read at ∷ ps) ≡ true → length (read at ∷ ps) * 2 ≤ length b - at) (read at).fine
     (λ u g. let h = walk_few subscribe b k (read at).next (both (good_piece b (read at)) _ g).1 in omega (arith, i.further u, i.lies.after, h))
     (λ u g. clash (both (read at).fine _ (both (good_piece b (read at)) true g).0).0 u))
 
@@ -75,7 +73,7 @@ listed_back : (kind : ℕ) → is_list kind ≡ true → is_list (type_number (t
 listed_back kind l =
     either (eqb kind 8) (eqb kind 10) l (λ e. let k : kind ≡ 8 = eqb-true _ _ e in rw k) (λ e. let k : kind ≡ 10 = eqb-true _ _ e in rw k)
 
-each_listed : (f : Piece → PacketMessage) → ((p : Piece) → is_listed (f p) ≡ true) → (ps : List Piece) → every is_listed (map f ps) ≡ true
+each_listed : (f : ToldPiece → ToldMessage) → ((p : ToldPiece) → is_listed (f p) ≡ true) → (ps : List ToldPiece) → every is_listed (map f ps) ≡ true
 unfolding every
 each_listed f z [] = refl
 each_listed f z (p ∷ ps) = rw (z p) (each_listed f z ps)
@@ -90,17 +88,17 @@ module _ (s : List ℕ) (place now_us : ℕ) (ok : Bool) where
   abbrev body : List ℕ
   body = body_in bytes
 
-  abbrev sent : Piece → PacketMessage
+  abbrev sent : ToldPiece → ToldMessage
   sent p = sent_from kind (length_at bytes 1).value (place + body_from bytes) now_us ok p
 
   module _ (h : header_refusal bytes ≡ 0) where
     -- the message of a piece that was read and is not long
-    one_message : (step : ℕ) {p : Piece} → piece_at kind (flags_of bytes) body step ≡ p → Fit p → message_at s place step now_us ok ≡ sent p
+    one_message : (step : ℕ) {p : ToldPiece} → piece_at kind (flags_of bytes) body step ≡ p → Fit p → message_at s place step now_us ok ≡ sent p
     unfolding message_for message_from
     one_message step {p} e f = rw (h, e, piece_fine p f.0 f.1)
 
     module _ (l : is_list kind ≡ true) where
-      abbrev read : ℕ → Piece
+      abbrev read : ℕ → ToldPiece
       read = filter_at (eqb kind 8) body
 
       -- a walk over filters that are good and short
@@ -109,7 +107,7 @@ module _ (s : List ℕ) (place now_us : ℕ) (ok : Bool) where
       unfolding walk every some stepped
       walked zero end at = λ g f. refl
       walked (suc k) end at =
-          let P : List Piece → Type 0 = λ (ps : List Piece).
+          let P : List ToldPiece → Type 0 = λ (ps : List ToldPiece).
           every (good_piece body) ps ≡ true → some is_long ps ≡ false → stepped (length ps) s place at now_us ok ≡ map sent ps in
           choose P (leb end at) (λ _ g f. refl)
           (λ _ g f.
@@ -117,7 +115,7 @@ module _ (s : List ℕ) (place now_us : ℕ) (ok : Bool) where
           let r = neither (is_long (read at)) _ f in
           let t = fit body (read at) q.0 r.0 in
           let m = one_message at (list_piece kind (flags_of bytes) body at l) t in
-          choose (λ (ps : List Piece). every (good_piece body) ps ≡ true → some is_long ps ≡ false
+          choose (λ (ps : List ToldPiece). every (good_piece body) ps ≡ true → some is_long ps ≡ false
           → message_at s place at now_us ok ∷ stepped (length ps) s place (message_at s place at now_us ok).next now_us ok ≡ sent (read at) ∷ map sent ps)
           (read at).fine
           (λ _ g2 f2. joined (λ (next : ℕ). stepped (length (walk read k end (read at).next)) s place next now_us ok) m (walked k end (read at).next g2 f2))
@@ -128,7 +126,7 @@ module _ (s : List ℕ) (place now_us : ℕ) (ok : Bool) where
     abbrev a : Accepted bytes
     a = accepted bytes e
 
-    abbrev pieces : List Piece
+    abbrev pieces : List ToldPiece
     pieces = pieces_of kind (flags_of bytes) body
 
     of_list : is_list kind ≡ true → stepped (length pieces) s place (first_step kind) now_us ok ≡ map sent pieces
@@ -155,7 +153,7 @@ module _ (s : List ℕ) (place now_us : ℕ) (ok : Bool) where
     has_one : is_list kind ≡ true → 1 ≤ length (filters_of (eqb kind 8) body)
     has_one l =
         let n : 2 < length body = list_long (flags_of bytes) body (list_built_lem kind (flags_of bytes) body l a.built) in
-        let read : ℕ → Piece = filter_at (eqb kind 8) body in
+        let read : ℕ → ToldPiece = filter_at (eqb kind 8) body in
         let more = filter_further (eqb kind 8) body in
         by (read 2).fine (λ u. rw (left_turn read (length body) more 2 n u) (omega arith)) (λ u. rw (left_last read (length body) more 2 n u) (omega arith))
 
@@ -182,7 +180,7 @@ module _ (s : List ℕ) (place now_us : ℕ) (ok : Bool) where
     several n = by (is_list kind) (λ l. each_listed sent (λ p. listed_back kind l) pieces) (λ l. absurd (n (only_one l)))
 
 -- none of a packet's messages is refused
-each_good : (f : Piece → PacketMessage) → ((p : Piece) → (f p).number ≡ 0) → (ps : List Piece) → every (λ m. eqb m.number 0) (map f ps) ≡ true
+each_good : (f : ToldPiece → ToldMessage) → ((p : ToldPiece) → (f p).number ≡ 0) → (ps : List ToldPiece) → every (λ m. eqb m.number 0) (map f ps) ≡ true
 unfolding every
 each_good f z [] = refl
 each_good f z (p ∷ ps) = rw (z p) (each_good f z ps)

@@ -16,11 +16,9 @@ use Rattle.monitor.specs.State.{well_formed}
 use Rattle.monitor.specs.declared.state.MqttMonitor.{MqttMonitor}
 use Rattle.packets.specs.Bodies.{piece_at}
 use Rattle.packets.specs.Header.{length_at, type_of, flags_of, body_from, size_of, body_in, header_refusal}
-use Rattle.packets.specs.Messages.{sent_from, piece_refusal, message_from, message_for, message_at}
-use Rattle.packets.specs.Piece.{PieceIn, is_long}
+use Rattle.packets.specs.Messages.{sent_from, piece_refusal, message_from, message_for, message_at, ToldMessage}
+use Rattle.packets.specs.Piece.{PieceIn, is_long, ToldPiece}
 use Rattle.packets.specs.Taken.{topic_bytes, payload_bytes, Within, Taken}
-use Rattle.packets.specs.declared.messages.PacketMessage.{PacketMessage}
-use Rattle.packets.specs.declared.piece.Piece.{Piece}
 use Rattle.packets.proofs.bodies.PieceLaws.{piece_in}
 use Rattle.packets.proofs.packet.AcceptedLaws.{header_there}
 
@@ -29,7 +27,7 @@ part_long : (s : List ℕ) (from to : ℕ) → from ≤ to → to ≤ length s �
 part_long s from to h g = length-take-le (to - from) (drop from s) (omega (arith, length-drop from s))
 
 -- a piece that is made a message was read, and is not long
-piece_short : (p : Piece) → piece_refusal p ≡ 0 → p.to - p.from ≤ 128
+piece_short : (p : ToldPiece) → piece_refusal p ≡ 0 → p.to - p.from ≤ 128
 piece_short p =
     let P : ℕ → Type 0 = λ (n : ℕ). n ≡ 0 → p.to - p.from ≤ 128 in
     choose P p.fine (λ _. choose P (is_long p) (λ _ e. absurd (omega arith)) (λ l _. ltb-false _ _ l)) (λ _ e. absurd (omega arith))
@@ -39,7 +37,7 @@ module _ (s : List ℕ) (place now_us : ℕ) (ok : Bool) where
   bytes = drop place s
 
   -- the message of a piece that lies in the body
-  sent_within : (p : Piece) → size_of bytes ≤ length bytes → PieceIn (body_in bytes) p → p.to - p.from ≤ 128
+  sent_within : (p : ToldPiece) → size_of bytes ≤ length bytes → PieceIn (body_in bytes) p → p.to - p.from ≤ 128
       → Within s place (sent_from (type_of bytes) (length_at bytes 1).value (place + body_from bytes) now_us ok p)
   sent_within p h i short =
       let base : ℕ = place + body_from bytes in
@@ -61,7 +59,7 @@ module _ (s : List ℕ) (place now_us : ℕ) (ok : Bool) where
   within : (step : ℕ) → (message_at s place step now_us ok).number ≡ 0 → Within s place (message_at s place step now_us ok)
   unfolding message_for message_from
   within step =
-      let P : PacketMessage → Type 0 = λ (m : PacketMessage). m.number ≡ 0 → Within s place m in
+      let P : ToldMessage → Type 0 = λ (m : ToldMessage). m.number ≡ 0 → Within s place m in
       let p = piece_at (type_of bytes) (flags_of bytes) (body_in bytes) step in
       choose P (eqb (header_refusal bytes) 0)
       (λ h.
@@ -74,14 +72,14 @@ module _ (s : List ℕ) (place now_us : ℕ) (ok : Bool) where
       → ((message_at s place step now_us ok).msg.timestamp_us ≡ now_us) × ((message_at s place step now_us ok).msg.timestamp_ok ≡ ok)
   unfolding message_for message_from
   timed step =
-      let P : PacketMessage → Type 0 = λ (m : PacketMessage). m.number ≡ 0 → (m.msg.timestamp_us ≡ now_us) × (m.msg.timestamp_ok ≡ ok) in
+      let P : ToldMessage → Type 0 = λ (m : ToldMessage). m.number ≡ 0 → (m.msg.timestamp_us ≡ now_us) × (m.msg.timestamp_ok ≡ ok) in
       let p = piece_at (type_of bytes) (flags_of bytes) (body_in bytes) step in
       choose P (eqb (header_refusal bytes) 0)
       (λ _. choose P (eqb (piece_refusal p) 0) (λ _ _. (refl, refl)) (λ g e. absurd (eqb-false _ _ g e)))
       (λ h e. absurd (eqb-false _ _ h e))
 
 -- what says how long its parts are is not refused for it
-not_9 : (s : List ℕ) (place : ℕ) (m : PacketMessage) → Within s place m → (monitor : MqttMonitor)
+not_9 : (s : List ℕ) (place : ℕ) (m : ToldMessage) → Within s place m → (monitor : MqttMonitor)
     → inspect_refusal monitor m.msg (topic_bytes s m) (payload_bytes s m) ≡ 9 → ⊥
 unfolding inspect_refusal
 not_9 s place m w monitor =

@@ -2,10 +2,8 @@
 -- Assumes nothing.
 use Rattle.std.specs.Prelude.{Bool, cond, not, ◌&&◌, ◌||◌, List, ◌∷◌, ℕ, ◌/◌, ◌%◌, eqb, ltb, leb, length, get_or}
 use Rattle.slices.specs.Bytes.{bytes, begins}
-use Rattle.packets.specs.Fields.{begin, data_field, data_if, string_if, ends_behind}
-use Rattle.packets.specs.Piece.{no_piece, piece_of}
-use Rattle.packets.specs.declared.fields.Field.{Field}
-use Rattle.packets.specs.declared.piece.Piece.{Piece}
+use Rattle.packets.specs.Fields.{begin, data_field, data_if, string_if, ends_behind, ToldField}
+use Rattle.packets.specs.Piece.{no_piece, piece_of, ToldPiece}
 
 -- the bit of this weight is set
 abbrev pub is_set : ℕ → ℕ → Bool
@@ -38,17 +36,17 @@ unfoldable pub password_flag : ℕ → Bool
 password_flag f = is_set 128 f || not (is_set 64 f)
 
 -- [MQTT-3.1.3-3] the client id is the payload's first field
-abbrev pub client_field : List ℕ → Field
+abbrev pub client_field : List ℕ → ToldField
 client_field b = data_field b (begin 10)
 
 -- [MQTT-3.1.3-7], [MQTT-3.1.3-8] an empty client id only with a clean session
-unfoldable pub client_named : ℕ → Field → Bool
+unfoldable pub client_named : ℕ → ToldField → Bool
 client_named f client = is_set 2 f || ltb client.from client.next
 
 -- [MQTT-3.1.3-1] behind the client id stand, in this order: will topic and will message, user name, password
 -- [MQTT-3.1.2-9], [MQTT-3.1.2-11], [MQTT-3.1.2-18] to [MQTT-3.1.2-21] each where its flag is set, and only there, since nothing may stand behind the last
 -- [MQTT-3.1.3-10], [MQTT-3.1.3-11] will topic and user name are strings
-unfoldable pub connect_tail : ℕ → List ℕ → Field → Field
+unfoldable pub connect_tail : ℕ → List ℕ → ToldField → ToldField
 connect_tail f b client =
     data_if (is_set 64 f) b
     (string_if (is_set 128 f) b
@@ -66,5 +64,5 @@ connect_built flags b =
     && ends_behind b (connect_tail (connect_flags b) b (client_field b))
 
 -- its one piece: the client id as topic, and no payload
-unfoldable pub connect_piece : List ℕ → Piece
+unfoldable pub connect_piece : List ℕ → ToldPiece
 connect_piece b = cond (client_field b).fine (piece_of 0 (client_field b).from (client_field b).next (length b) (length b)) no_piece

@@ -8,5 +8,6 @@ pub mod Missing
 pub mod Packet
 pub mod Piece
 pub mod Publish
+pub mod Refusal
 pub mod Steps
 pub mod Taken

@@ -5,18 +5,17 @@ use Rattle.std.specs.Prelude.{Bool, true, List, [], ◌∷◌, ◌≡◌, ℕ, z
 use Rattle.laws.specs.Lists.{every}
 use Rattle.monitor.specs.Message.{type_number}
 use Rattle.packets.specs.Bodies.{is_list}
-use Rattle.packets.specs.Messages.{message_at, messages_at}
+use Rattle.packets.specs.Messages.{message_at, messages_at, ToldMessage}
 use Rattle.packets.specs.Packet.{packet_at}
-use Rattle.packets.specs.declared.messages.PacketMessage.{PacketMessage}
 
 -- so many calls of `message_at`, from a step on
-unfoldable pub stepped : ℕ → List ℕ → ℕ → ℕ → ℕ → Bool → List PacketMessage
+unfoldable pub stepped : ℕ → List ℕ → ℕ → ℕ → ℕ → Bool → List ToldMessage
 stepped zero s place step now_us ok = []
 stepped (suc k) s place step now_us ok =
     message_at s place step now_us ok ∷ stepped k s place (message_at s place step now_us ok).next now_us ok
 
 -- it is a Subscribe or an Unsubscribe
-abbrev pub is_listed : PacketMessage → Bool
+abbrev pub is_listed : ToldMessage → Bool
 is_listed m = is_list (type_number m.msg.packet_type)
 
 pub record Steps : Type 0 where

@@ -6,18 +6,17 @@ use Rattle.monitor.specs.Inspect.{inspect_refusal}
 use Rattle.monitor.specs.Runs.{Call}
 use Rattle.monitor.specs.declared.state.MqttMonitor.{MqttMonitor}
 use Rattle.packets.specs.Header.{body_from, size_of}
-use Rattle.packets.specs.Messages.{message_at, messages_at}
-use Rattle.packets.specs.declared.messages.PacketMessage.{PacketMessage}
+use Rattle.packets.specs.Messages.{message_at, messages_at, ToldMessage}
 
 -- the bytes of its topic, and of the inspected part of its payload
-abbrev pub topic_bytes : List ℕ → PacketMessage → List ℕ
+abbrev pub topic_bytes : List ℕ → ToldMessage → List ℕ
 topic_bytes s m = part s m.topic_from m.topic_to
 
-abbrev pub payload_bytes : List ℕ → PacketMessage → List ℕ
+abbrev pub payload_bytes : List ℕ → ToldMessage → List ℕ
 payload_bytes s m = part s m.payload_from m.payload_to
 
 -- as a call of `inspect`: the message, and exactly the bytes that it uses
-abbrev pub call_of : List ℕ → PacketMessage → Call
+abbrev pub call_of : List ℕ → ToldMessage → Call
 call_of s m = record { msg = m.msg; topic = topic_bytes s m; payload = payload_bytes s m }
 
 -- the messages of the packet at a place as such calls
@@ -25,7 +24,7 @@ abbrev pub calls_at : List ℕ → ℕ → ℕ → Bool → List Call
 calls_at s place now_us ok = map (call_of s) (messages_at s place now_us ok)
 
 -- a message lies within the packet at a place, behind its header, and says how long its topic and the inspected part of its payload are; its size is one that a trace can say
-pub record Within (s : List ℕ) (place : ℕ) (m : PacketMessage) : Type 0 where
+pub record Within (s : List ℕ) (place : ℕ) (m : ToldMessage) : Type 0 where
   pub whole : place + size_of (drop place s) ≤ length s
   pub topic :
       (place + body_from (drop place s) ≤ m.topic_from) × (m.topic_from ≤ m.topic_to) × (m.topic_to ≤ place + size_of (drop place s))

@@ -11,3 +11,4 @@ pub mod messages;
 pub mod packet;
 mod piece;
 mod publish;
+pub mod refusal;

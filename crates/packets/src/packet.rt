@@ -1,67 +1,49 @@
 // A whole packet (request C-11).
 ghost use Rattle.std.specs.Prelude.{◌≡◌};
-ghost use Rattle.packets.specs.Packet.{refused_packet, packet_of, packet_at, PacketIn};
+ghost use Rattle.packets.specs.Packet.{packet_told, packet_of, packet_at, PacketIn};
 
 use crate::bodies::{body_built, first_step, look_at};
 use crate::header::read_header;
+use crate::refusal::PacketRefusal;
 
-// What a packet is: 0, 31, 32 or 33; its length from its first byte; how many messages it has, and the step of the first, for `message_at`. A refused one has no length and no message.
-#[derive(Clone, Copy)]
+/// What a packet is: its length from its first byte; how many messages it has, and the step of the first, for `message_at`.
+#[derive(Clone, Copy, Debug, PartialEq, Eq)]
 pub struct Packet {
-    pub number: u32,
     pub length: usize,
     pub messages: usize,
     pub first: usize,
 }
 
-// A packet that is refused.
-fn refused_packet(number: u32) -> Packet
-    ensures { result ≡ refused_packet number }
-{
-    Packet {
-        number,
-        length: 0,
-        messages: 0,
-        first: 0,
-    }
-}
-
 // The packet that some bytes begin with.
-fn packet_of(s: &[u8]) -> Packet
-    ensures { result ≡ packet_of s.now }
+fn packet_of(s: &[u8]) -> Result<Packet, PacketRefusal>
+    ensures { packet_told result ≡ packet_of s.now }
 {
-    let h = read_header(s);
-    if h.number != 0 {
-        return refused_packet(h.number);
+    let h = read_header(s)?;
+    let body = &s[h.from..h.to];
+    if !body_built(h.kind, h.flags, body) {
+        return Err(PacketRefusal::Malformed);
     }
-    let from = h.from;
-    let to = h.to;
-    if !body_built(h.kind, h.flags, &s[from..to]) {
-        return refused_packet(32);
-    }
-    let seen = look_at(h.kind, h.flags, &s[from..to]);
+    let seen = look_at(h.kind, h.flags, body);
     if !seen.sound {
-        return refused_packet(32);
+        return Err(PacketRefusal::Malformed);
     }
     if seen.long {
-        return refused_packet(33);
+        return Err(PacketRefusal::TooLong);
     }
-    let first = first_step(h.kind);
-    Packet {
-        number: 0,
-        length: to,
+    Ok(Packet {
+        length: h.to,
         messages: seen.count,
-        first,
-    }
+        first: first_step(h.kind),
+    })
 }
 
-// The packet at a place of some bytes, any place: 31 where no byte stands there.
-pub fn read_packet(bytes: &[u8], place: usize) -> Packet
-    ensures value { result ≡ packet_at bytes.now place }
-    ensures within { PacketIn bytes.now place result }
+/// The packet at a place of some bytes, any place: where no byte stands there it is incomplete.
+pub fn read_packet(bytes: &[u8], place: usize) -> Result<Packet, PacketRefusal>
+    ensures value { packet_told result ≡ packet_at bytes.now place }
+    ensures within { PacketIn bytes.now place (packet_told result) }
 {
     if bytes.len() <= place {
-        return refused_packet(31);
+        return Err(PacketRefusal::Incomplete);
     }
     packet_of(&bytes[place..])
 }

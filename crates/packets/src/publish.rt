@@ -1,11 +1,14 @@
 // The body of a PUBLISH (MQTT 3.1.1, section 3.3), and the test of a packet identifier.
-ghost use Rattle.std.specs.Prelude.{◌≡◌};
+ghost use Rattle.std.specs.Prelude.{◌≡◌, Some};
+ghost use Rattle.packets.specs.Fields.{field_told};
+ghost use Rattle.packets.specs.Piece.{piece_told};
 ghost use Rattle.packets.specs.Publish.{publish_flags, identified, publish_built, publish_piece};
 
 use crate::fields::{Field, begin_at, data_field, number_if};
-use crate::piece::{Piece, no_piece};
+use crate::piece::Piece;
 
 // QoS 0 to 2, and DUP only above 0.
+#[tactic(auto, unfolding(crate::specs::Publish::publish_flags))]
 fn publish_flags(flags: u8) -> bool
     ensures { result ≡ publish_flags flags }
 {
@@ -13,41 +16,44 @@ fn publish_flags(flags: u8) -> bool
 }
 
 // A packet identifier, where one is due, that is not 0.
+#[tactic(auto, unfolding(crate::specs::Publish::identified))]
 pub fn is_identified(due: bool, f: Field) -> bool
-    ensures { result ≡ identified due f }
+    ensures { result ≡ identified due (field_told (Some f)) }
 {
-    f.fine && (!due || 0 < f.value)
+    !due || 0 < f.value
 }
 
 // The checks of section 3.3, but for the topic's own.
+#[tactic(auto, unfolding(crate::specs::Publish::publish_built))]
 pub fn publish_built(flags: u8, b: &[u8]) -> bool
     ensures { result ≡ publish_built flags b.now }
 {
     if !publish_flags(flags) {
         return false;
     }
-    let topic = data_field(b, begin_at(0));
+    let Some(topic) = data_field(b, begin_at(0)) else {
+        return false;
+    };
     let due = flags / 2 % 4 != 0;
-    let id = number_if(due, b, topic);
-    is_identified(due, id)
+    match number_if(due, b, topic) {
+        Some(id) => is_identified(due, id),
+        None => false,
+    }
 }
 
 // The topic, the QoS, and where the payload begins.
-pub fn publish_piece(flags: u8, b: &[u8]) -> Piece
-    ensures { result ≡ publish_piece flags b.now }
+#[tactic(auto, unfolding(crate::specs::Publish::publish_piece))]
+pub fn publish_piece(flags: u8, b: &[u8]) -> Option<Piece>
+    ensures { piece_told result ≡ publish_piece flags b.now }
 {
-    let topic = data_field(b, begin_at(0));
+    let topic = data_field(b, begin_at(0))?;
     let qos = flags / 2 % 4;
-    let id = number_if(qos != 0, b, topic);
-    if !id.fine {
-        return no_piece();
-    }
-    Piece {
-        fine: true,
+    let id = number_if(qos != 0, b, topic)?;
+    Some(Piece {
         qos,
         from: topic.from,
         to: topic.next,
         rest: id.next,
         next: b.len(),
-    }
+    })
 }

@@ -35,7 +35,7 @@ use Rattle.packets.specs.Messages as packet
 use Rattle.packets.specs.Packet.{packet_at}
 use Rattle.packets.specs.Steps.{stepped}
 use Rattle.packets.specs.Taken.{topic_bytes, payload_bytes, call_of}
-use Rattle.packets.specs.declared.messages.PacketMessage.{PacketMessage}
+use Rattle.packets.specs.Messages.{ToldMessage}
 use Rattle.packets.proofs.Steps.{steps}
 use Rattle.packets.proofs.Taken.{taken}
 use Rattle.packets.proofs.messages.LeftLaws.{left, Good, good_both, first_good}
@@ -200,7 +200,7 @@ part_bytes s from to b i =
 
 module _ (buffer : List ℕ) (place now_us : ℕ) (ok : Bool) (b : IsBytes buffer) (n : now_us ≤ 18446744073709551615) where
   -- a message that was handed out can be written
-  writable : (step : ℕ) {m : PacketMessage} → m ≡ packet.message_at buffer place step now_us ok → m.number ≡ 0 → Writable m.msg (topic_bytes buffer m) (payload_bytes buffer m)
+  writable : (step : ℕ) {m : ToldMessage} → m ≡ packet.message_at buffer place step now_us ok → m.number ≡ 0 → Writable m.msg (topic_bytes buffer m) (payload_bytes buffer m)
   writable step {m} e z =
       let w = taken.within buffer place step now_us ok (rw e at z) in
       let t = taken.timed buffer place step now_us ok (rw e at z) in

@@ -2,19 +2,18 @@
 -- Assumes nothing.
 use Rattle.std.specs.Prelude.{Bool, cond, List, [], ◌∷◌, ◌++◌, ℕ, eqb, leb, length}
 use Rattle.std.proofs.lemmas.List.Edits.{sets}
-use Rattle.packets.specs.Messages.{messages_at}
+use Rattle.packets.specs.Messages.{messages_at, ToldMessage}
 use Rattle.packets.specs.Packet.{packet_at, first_of}
 use Rattle.packets.specs.Taken.{topic_bytes, payload_bytes}
-use Rattle.packets.specs.declared.messages.PacketMessage.{PacketMessage}
 use Rattle.packets_text.specs.MessageText.{message_text}
 use Rattle.packets_text.specs.declared.written.PacketLines.{PacketLines}
 
 -- the lines of a message of some bytes
-abbrev pub text_of : List ℕ → PacketMessage → List ℕ
+abbrev pub text_of : List ℕ → ToldMessage → List ℕ
 text_of s m = message_text m.msg (topic_bytes s m) (payload_bytes s m)
 
 -- those of messages one after the other
-unfoldable pub texts_of : List ℕ → List PacketMessage → List ℕ
+unfoldable pub texts_of : List ℕ → List ToldMessage → List ℕ
 texts_of s [] = []
 texts_of s (m ∷ ms) = text_of s m ++ texts_of s ms
 

@@ -8,9 +8,8 @@ use Rattle.laws.proofs.Cases.{choose}
 use Rattle.packets.specs.Bodies.{is_list, piece_at}
 use Rattle.packets.specs.Connect.{client_field, connect_piece}
 use Rattle.packets.specs.Fields.{begin}
-use Rattle.packets.specs.Piece.{PieceIn, plain_piece}
+use Rattle.packets.specs.Piece.{PieceIn, plain_piece, ToldPiece}
 use Rattle.packets.specs.Publish.{has_id, topic_field, id_field, publish_piece}
-use Rattle.packets.specs.declared.piece.Piece.{Piece}
 use Rattle.packets.proofs.fields.FieldLaws.{data_inside, number_if_ended}
 use Rattle.packets.proofs.filters.WalkLaws.{none_in, filter_in}
 
@@ -41,5 +40,5 @@ piece_in kind flags b step =
     (λ _. plain_in b)))
 
 -- so whatever equals it lies there, too
-pub piece_is : (kind flags : ℕ) (b : List ℕ) (step : ℕ) {p : Piece} → p ≡ piece_at kind flags b step → (p ≡ piece_at kind flags b step) × PieceIn b p
+pub piece_is : (kind flags : ℕ) (b : List ℕ) (step : ℕ) {p : ToldPiece} → p ≡ piece_at kind flags b step → (p ≡ piece_at kind flags b step) × PieceIn b p
 piece_is kind flags b step e = (e, rw e (piece_in kind flags b step))

@@ -10,9 +10,8 @@ use Rattle.laws.proofs.Cases.{choose, clash}
 use Rattle.laws.proofs.Tests.{both}
 use Rattle.slices.specs.Bytes.{bytes, begins}
 use Rattle.packets.specs.Connect.{connect_head, client_field, connect_piece}
-use Rattle.packets.specs.Piece.{no_piece, piece_of}
-use Rattle.packets.specs.declared.fields.Field.{Field}
-use Rattle.packets.specs.declared.piece.Piece.{Piece}
+use Rattle.packets.specs.Piece.{no_piece, piece_of, ToldPiece}
+use Rattle.packets.specs.Fields.{ToldField}
 
 pub head_long : (level : ℕ) (b : List ℕ) → connect_head level b ≡ true → 10 ≤ length b
 unfolding connect_head
@@ -20,11 +19,11 @@ head_long level b e =
     let name : Bool = begins (0 ∷ 4 ∷ bytes "MQTT") b in
     leb-true 10 (length b) (both (leb 10 (length b)) name (both (leb 10 (length b) && name) (eqb (get_or b 6 0) level) e).0).0
 
-module _ (b : List ℕ) {f : Field} (e : f ≡ client_field b) where
+module _ (b : List ℕ) {f : ToldField} (e : f ≡ client_field b) where
   pub connect_good : f.fine ≡ true → piece_of 0 f.from f.next (length b) (length b) ≡ connect_piece b
   unfolding connect_piece
-  connect_good t = rw (← e) (choose (λ (p : Piece). piece_of 0 f.from f.next (length b) (length b) ≡ p) f.fine (λ _. refl) (λ u. clash t u))
+  connect_good t = rw (← e) (choose (λ (p : ToldPiece). piece_of 0 f.from f.next (length b) (length b) ≡ p) f.fine (λ _. refl) (λ u. clash t u))
 
   pub connect_none : f.fine ≡ false → no_piece ≡ connect_piece b
   unfolding connect_piece
-  connect_none t = rw (← e) (choose (λ (p : Piece). no_piece ≡ p) f.fine (λ u. clash u t) (λ _. refl))
+  connect_none t = rw (← e) (choose (λ (p : ToldPiece). no_piece ≡ p) f.fine (λ u. clash u t) (λ _. refl))

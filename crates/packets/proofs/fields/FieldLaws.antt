@@ -9,14 +9,13 @@ use lib.ListN.{length}
 use borrow.Author.Tests.{leb-true, le-leb}
 use Rattle.laws.proofs.Cases.{choose, clash}
 use Rattle.laws.proofs.Tests.{both, alike}
-use Rattle.packets.specs.Fields.{Inside, broken_field, room_behind, byte_field, number_field, data_of, data_field, byte_if, number_if}
-use Rattle.packets.specs.declared.fields.Field.{Field}
+use Rattle.packets.specs.Fields.{Inside, broken_field, room_behind, byte_field, number_field, data_of, data_field, byte_if, number_if, ToldField}
 
 -- a comparison that cannot overflow is the same
 pub leb_less : (a n l : ℕ) → n ≤ l → leb a (l - n) ≡ leb (a + n) l
 leb_less a n l h = alike (leb a (l - n)) (leb (a + n) l) (λ e. le-leb (a + n) l (omega (arith, leb-true a (l - n) e))) (λ e. le-leb a (l - n) (omega (arith, leb-true (a + n) l e)))
 
-module _ (b : List ℕ) (f : Field) (n : ℕ) where
+module _ (b : List ℕ) (f : ToldField) (n : ℕ) where
   -- where there is room, the field before was read and the bytes are there
   pub room_is : room_behind b f n ≡ true → (f.fine ≡ true) × (f.next + n ≤ length b)
   unfolding room_behind
@@ -27,10 +26,10 @@ pub broken_inside : (b : List ℕ) → Inside b broken_field
 broken_inside b = record { ordered = omega arith; ended = omega arith }
 
 -- what a field that was read says of the one before it
-abbrev Behind : Field → ℕ → Field → Type 0
+abbrev Behind : ToldField → ℕ → ToldField → Type 0
 Behind f n d = d.fine ≡ true → (f.fine ≡ true) × (f.next + n ≤ d.next)
 
-module _ (b : List ℕ) (f : Field) where
+module _ (b : List ℕ) (f : ToldField) where
   pub data_of_inside : Inside b (data_of b f)
   unfolding data_of
   data_of_inside =
@@ -46,7 +45,7 @@ module _ (b : List ℕ) (f : Field) where
 
   number_ended : (number_field b f).next ≤ length b
   unfolding number_field
-  number_ended = choose (λ (d : Field). d.next ≤ length b) (room_behind b f 2) (λ e. omega (arith, (room_is b f 2 e).1)) (λ _. omega arith)
+  number_ended = choose (λ (d : ToldField). d.next ≤ length b) (room_behind b f 2) (λ e. omega (arith, (room_is b f 2 e).1)) (λ _. omega arith)
 
   byte_behind : Behind f 1 (byte_field b f)
   unfolding byte_field
@@ -54,9 +53,9 @@ module _ (b : List ℕ) (f : Field) where
 
   byte_ended : (byte_field b f).next ≤ length b
   unfolding byte_field
-  byte_ended = choose (λ (d : Field). d.next ≤ length b) (room_behind b f 1) (λ e. omega (arith, (room_is b f 1 e).1)) (λ _. omega arith)
+  byte_ended = choose (λ (d : ToldField). d.next ≤ length b) (room_behind b f 1) (λ e. omega (arith, (room_is b f 1 e).1)) (λ _. omega arith)
 
-module _ (b : List ℕ) (f : Field) where
+module _ (b : List ℕ) (f : ToldField) where
   pub data_inside : Inside b (data_field b f)
   unfolding data_field
   data_inside = data_of_inside b (number_field b f)
@@ -69,14 +68,14 @@ module _ (b : List ℕ) (f : Field) where
       (n.0, omega arith)
 
 -- a field that is there only where it is wanted
-pub byte_if_behind : (wanted : Bool) (b : List ℕ) (f : Field) → Behind f 0 (byte_if wanted b f)
+pub byte_if_behind : (wanted : Bool) (b : List ℕ) (f : ToldField) → Behind f 0 (byte_if wanted b f)
 byte_if_behind true b f e = let h = byte_behind b f e in (h.0, omega arith)
 byte_if_behind false b f e = (e, omega arith)
 
-pub byte_if_ended : (wanted : Bool) (b : List ℕ) (f : Field) → f.next ≤ length b → (byte_if wanted b f).next ≤ length b
+pub byte_if_ended : (wanted : Bool) (b : List ℕ) (f : ToldField) → f.next ≤ length b → (byte_if wanted b f).next ≤ length b
 byte_if_ended true b f h = byte_ended b f
 byte_if_ended false b f h = h
 
-pub number_if_ended : (wanted : Bool) (b : List ℕ) (f : Field) → f.next ≤ length b → (number_if wanted b f).next ≤ length b
+pub number_if_ended : (wanted : Bool) (b : List ℕ) (f : ToldField) → f.next ≤ length b → (number_if wanted b f).next ≤ length b
 number_if_ended true b f h = number_ended b f
 number_if_ended false b f h = h

@@ -12,11 +12,9 @@ use borrow.Author.Tests.{leb-false, le-leb, lt-leb, ltb-true}
 use Rattle.laws.proofs.Cases.{by, choose, clash}
 use Rattle.laws.proofs.Fuel.{fuel}
 use Rattle.laws.proofs.Tests.{both}
-use Rattle.packets.specs.Fields.{begin, byte_if, data_field}
+use Rattle.packets.specs.Fields.{begin, byte_if, data_field, ToldField}
 use Rattle.packets.specs.Filters.{FilterIn, request_fine, filter_from, filter_at, walk}
-use Rattle.packets.specs.Piece.{PieceIn, no_piece, piece_of}
-use Rattle.packets.specs.declared.fields.Field.{Field}
-use Rattle.packets.specs.declared.piece.Piece.{Piece}
+use Rattle.packets.specs.Piece.{PieceIn, no_piece, piece_of, ToldPiece}
 use Rattle.packets.proofs.fields.FieldLaws.{data_inside, data_behind, byte_if_behind, byte_if_ended}
 
 -- no piece lies in every body
@@ -28,12 +26,12 @@ pub no_filter : (b : List ℕ) (at : ℕ) → FilterIn b at no_piece
 no_filter b at = record { lies = none_in b; further = λ e. clash e refl }
 
 -- a request that is fine was read, and asks for QoS 0 to 2
-pub request_is : (q : Field) → request_fine q ≡ true → (q.fine ≡ true) × (q.value < 3)
+pub request_is : (q : ToldField) → request_fine q ≡ true → (q.fine ≡ true) × (q.value < 3)
 unfolding request_fine
 request_is q e = let h = both q.fine (ltb q.value 3) e in (h.0, ltb-true _ _ h.1)
 
 module _ (subscribe : Bool) (b : List ℕ) (at : ℕ) where
-  abbrev name : Field
+  abbrev name : ToldField
   name = data_field b (begin at)
 
   pub filter_in : FilterIn b at (filter_at subscribe b at)
@@ -52,11 +50,11 @@ module _ (subscribe : Bool) (b : List ℕ) (at : ℕ) where
       (λ _. no_filter b at)
 
 -- so whatever equals it lies there, too
-pub filter_is : (subscribe : Bool) (b : List ℕ) (at : ℕ) {p : Piece} → p ≡ filter_at subscribe b at → (p ≡ filter_at subscribe b at) × FilterIn b at p
+pub filter_is : (subscribe : Bool) (b : List ℕ) (at : ℕ) {p : ToldPiece} → p ≡ filter_at subscribe b at → (p ≡ filter_at subscribe b at) × FilterIn b at p
 filter_is subscribe b at e = (e, rw e (filter_in subscribe b at))
 
 -- a filter by its two fields
-module _ (subscribe : Bool) (b : List ℕ) (at : ℕ) {f q : Field} (e : f ≡ data_field b (begin at)) (g : q ≡ byte_if subscribe b f) where
+module _ (subscribe : Bool) (b : List ℕ) (at : ℕ) {f q : ToldField} (e : f ≡ data_field b (begin at)) (g : q ≡ byte_if subscribe b f) where
   pub filter_good : request_fine q ≡ true → piece_of q.value f.from f.next (length b) q.next ≡ filter_at subscribe b at
   unfolding filter_at filter_from
   filter_good h = rw (← e, ← g, h)
@@ -70,7 +68,7 @@ pub filter_further : (subscribe : Bool) (b : List ℕ) (at : ℕ) → (filter_at
 filter_further subscribe b at u = let h = (filter_in subscribe b at).further u in omega arith
 
 -- a reader whose pieces take a byte at least
-module _ (read : ℕ → Piece) (end : ℕ) (further : (at : ℕ) → (read at).fine ≡ true → at < (read at).next) where
+module _ (read : ℕ → ToldPiece) (end : ℕ) (further : (at : ℕ) → (read at).fine ≡ true → at < (read at).next) where
   step : (k j at : ℕ) → ((t : ℕ) → end - t < end - at → walk read k end t ≡ walk read j end t) → walk read (suc k) end at ≡ walk read (suc j) end at
   unfolding walk
   step k j at smaller =
@@ -80,7 +78,7 @@ module _ (read : ℕ → Piece) (end : ℕ) (further : (at : ℕ) → (read at).
       by (read at).fine (λ u. let f = further at u in rw (t, u, smaller (read at).next (omega arith))) (λ u. rw (t, u)))
 
   -- what is left of a walk at a place
-  abbrev pub left : ℕ → List Piece
+  abbrev pub left : ℕ → List ToldPiece
   left at = walk read (end + 1) end at
 
   more : (at : ℕ) → left at ≡ walk read (suc end) end at
@@ -102,7 +100,7 @@ module _ (read : ℕ → Piece) (end : ℕ) (further : (at : ℕ) → (read at).
   left_turn at l u =
       let f = further at u in
       more at ∙ one end at l u
-      ∙ ap (λ (ps : List Piece). read at ∷ ps) (fuel (λ (t : ℕ). end - t) (λ k t. walk read k end t) step end (end + 1) (read at).next (omega arith) (omega arith))
+      ∙ ap (λ (ps : List ToldPiece). read at ∷ ps) (fuel (λ (t : ℕ). end - t) (λ k t. walk read k end t) step end (end + 1) (read at).next (omega arith) (omega arith))
 
   pub left_last : (at : ℕ) → at < end → (read at).fine ≡ false → left at ≡ read at ∷ []
   left_last at l u = more at ∙ last end at l u

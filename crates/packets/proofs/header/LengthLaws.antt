@@ -8,9 +8,7 @@ use lib.Dec.{eqb, ltb}
 use lib.ListN.{length, get_or-eq_default}
 use borrow.Author.Tests.{eqb-true, lt-ltb, le-ltb}
 use Rattle.laws.proofs.Cases.{by_le, choose, clash}
-use Rattle.packets.specs.Header.{byte_at, seven_at, length_is, length_over, length_at, type_of, flags_of, body_from, size_of, header_refusal, refused_header, header_of, LengthSmall, HeaderIn}
-use Rattle.packets.specs.declared.header.Header.{Header}
-use Rattle.packets.specs.declared.header.Length.{Length}
+use Rattle.packets.specs.Header.{byte_at, seven_at, length_is, length_over, length_at, type_of, flags_of, body_from, size_of, header_refusal, refused_header, header_of, LengthSmall, HeaderIn, ToldHeader, ToldLength}
 
 -- four bytes of seven bits each
 pub length_small : (s : List ℕ) (at : ℕ) → LengthSmall (length_at s at)
@@ -27,27 +25,27 @@ length_small s at =
     (λ _. record { bytes = omega arith; value = omega arith }))))
 
 -- so whatever equals it is small, too
-small_is : (s : List ℕ) (at : ℕ) {l : Length} → l ≡ length_at s at → (l ≡ length_at s at) × LengthSmall l
+small_is : (s : List ℕ) (at : ℕ) {l : ToldLength} → l ≡ length_at s at → (l ≡ length_at s at) × LengthSmall l
 small_is s at e = (e, rw e (length_small s at))
 
 -- each way through the field, by its bytes: `l` is what was made of them
 module _ (s : List ℕ) (at : ℕ) {a : ℕ} (ea : a ≡ byte_at s at) where
-  pub length_1 : a < 128 → {l : Length} → l ≡ length_is 1 (a % 128) → (l ≡ length_at s at) × LengthSmall l
+  pub length_1 : a < 128 → {l : ToldLength} → l ≡ length_is 1 (a % 128) → (l ≡ length_at s at) × LengthSmall l
   unfolding length_at
   length_1 h e = small_is s at (rw (← ea, lt-ltb a 128 h) e)
 
   module _ (ha : 128 ≤ a) {b : ℕ} (eb : b ≡ byte_at s (at + 1)) where
-    pub length_2 : b < 128 → {l : Length} → l ≡ length_is 2 (a % 128 + b % 128 * 128) → (l ≡ length_at s at) × LengthSmall l
+    pub length_2 : b < 128 → {l : ToldLength} → l ≡ length_is 2 (a % 128 + b % 128 * 128) → (l ≡ length_at s at) × LengthSmall l
     unfolding length_at
     length_2 h e = small_is s at (rw (← ea, le-ltb a 128 ha, ← eb, lt-ltb b 128 h) e)
 
     module _ (hb : 128 ≤ b) {c : ℕ} (ec : c ≡ byte_at s (at + 2)) where
-      pub length_3 : c < 128 → {l : Length} → l ≡ length_is 3 (a % 128 + b % 128 * 128 + c % 128 * 16384) → (l ≡ length_at s at) × LengthSmall l
+      pub length_3 : c < 128 → {l : ToldLength} → l ≡ length_is 3 (a % 128 + b % 128 * 128 + c % 128 * 16384) → (l ≡ length_at s at) × LengthSmall l
       unfolding length_at
       length_3 h e = small_is s at (rw (← ea, le-ltb a 128 ha, ← eb, le-ltb b 128 hb, ← ec, lt-ltb c 128 h) e)
 
       module _ (hc : 128 ≤ c) {d : ℕ} (ed : d ≡ byte_at s (at + 3)) where
-        pub length_4 : d < 128 → {l : Length} → l ≡ length_is 4 (a % 128 + b % 128 * 128 + c % 128 * 16384 + d % 128 * 2097152) → (l ≡ length_at s at) × LengthSmall l
+        pub length_4 : d < 128 → {l : ToldLength} → l ≡ length_is 4 (a % 128 + b % 128 * 128 + c % 128 * 16384 + d % 128 * 2097152) → (l ≡ length_at s at) × LengthSmall l
         unfolding length_at
         length_4 h e = small_is s at (rw (← ea, le-ltb a 128 ha, ← eb, le-ltb b 128 hb, ← ec, le-ltb c 128 hc, ← ed, lt-ltb d 128 h) e)
 
@@ -79,7 +77,7 @@ module _ (s : List ℕ) where
     whole_is h = choose (λ (n : ℕ). n ≡ 0) (length_at s 1).over (λ u. clash u o) (λ _. rw (le-ltb (length s) (size_of s) h))
 
 -- each way through a header
-module _ (s : List ℕ) {l : Length} (e : l ≡ length_at s 1) where
+module _ (s : List ℕ) {l : ToldLength} (e : l ≡ length_at s 1) where
   pub header_over : l.over ≡ true → refused_header 32 ≡ header_of s
   unfolding header_of
   header_over o = rw (over_is s (rw e at o))
@@ -94,19 +92,19 @@ module _ (s : List ℕ) {l : Length} (e : l ≡ length_at s 1) where
   header_whole o h = rw (whole_is s (rw e at o) (rw e at h), e)
 
 -- what a header that was read says
-pub record Read (s : List ℕ) (h : Header) : Type 0 where
+pub record Read (s : List ℕ) (h : ToldHeader) : Type 0 where
   pub refusal : header_refusal s ≡ 0
   pub kind : h.kind ≡ type_of s
   pub flags : h.flags ≡ flags_of s
   pub from : h.from ≡ body_from s
   pub to : h.to ≡ size_of s
 
-module _ (s : List ℕ) {h : Header} (e : h ≡ header_of s) where
+module _ (s : List ℕ) {h : ToldHeader} (e : h ≡ header_of s) where
   -- its number is the refusal's
   pub number_is : h.number ≡ header_refusal s
   unfolding header_of
   number_is =
-      rw e (choose (λ (g : Header). g.number ≡ header_refusal s) (eqb (header_refusal s) 0) (λ z. sym (eqb-true _ _ z)) (λ _. refl))
+      rw e (choose (λ (g : ToldHeader). g.number ≡ header_refusal s) (eqb (header_refusal s) 0) (λ z. sym (eqb-true _ _ z)) (λ _. refl))
 
   pub header_read : h.number ≡ 0 → Read s h
   unfolding header_of

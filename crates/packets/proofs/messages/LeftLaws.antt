@@ -14,27 +14,25 @@ use Rattle.monitor.specs.Runs.{Call, Exact}
 use Rattle.monitor.proofs.Replies.{AllExact}
 use Rattle.packets.specs.Bodies.{pieces_of}
 use Rattle.packets.specs.Header.{length_at, type_of, flags_of, body_from, body_in}
-use Rattle.packets.specs.Messages.{sent_from, message_at, messages_of, messages_at}
-use Rattle.packets.specs.Packet.{packet_at}
+use Rattle.packets.specs.Messages.{sent_from, message_at, messages_of, messages_at, ToldMessage}
+use Rattle.packets.specs.Packet.{packet_at, ToldPacket}
 use Rattle.packets.specs.Steps.{stepped}
 use Rattle.packets.specs.Taken.{call_of, calls_at, Within}
-use Rattle.packets.specs.declared.messages.PacketMessage.{PacketMessage}
-use Rattle.packets.specs.declared.packet.Packet.{Packet}
-use Rattle.packets.specs.declared.piece.Piece.{Piece}
+use Rattle.packets.specs.Piece.{ToldPiece}
 use Rattle.packets.proofs.Steps.{steps, all_good, limited}
 use Rattle.packets.proofs.Taken.{taken}
 
 -- whoever lies within its packet lends exactly what its message uses
-within_exact : (s : List ℕ) (place : ℕ) (m : PacketMessage) → Within s place m → Exact (call_of s m)
+within_exact : (s : List ℕ) (place : ℕ) (m : ToldMessage) → Within s place m → Exact (call_of s m)
 within_exact s place m w = (omega (arith, w.topic_long.0, w.topic_long.1), omega (arith, w.payload_long.0, w.payload_long.1))
 
 module _ (s : List ℕ) (place now_us : ℕ) (ok : Bool) where
   -- so many messages from a step on
-  abbrev pub left : ℕ → ℕ → List PacketMessage
+  abbrev pub left : ℕ → ℕ → List ToldMessage
   left k step = stepped k s place step now_us ok
 
   -- none of them is refused
-  abbrev pub is_good : PacketMessage → Bool
+  abbrev pub is_good : ToldMessage → Bool
   is_good m = eqb m.number 0
 
   abbrev pub Good : ℕ → ℕ → Type 0
@@ -46,7 +44,7 @@ module _ (s : List ℕ) (place now_us : ℕ) (ok : Bool) where
   one (suc k) step h = rw sub-one
 
   -- the message at a step of which some are left
-  module _ {k : ℕ} (step : ℕ) (h : 0 < k) {m : PacketMessage} (e : m ≡ message_at s place step now_us ok) where
+  module _ {k : ℕ} (step : ℕ) (h : 0 < k) {m : ToldMessage} (e : m ≡ message_at s place step now_us ok) where
     pub turn : left k step ≡ m ∷ left (k - 1) m.next
     turn = rw e (one k step h)
 
@@ -65,7 +63,7 @@ module _ (s : List ℕ) (place now_us : ℕ) (ok : Bool) where
   unfolding stepped
   none_left step e = rw e
 
-  module _ {p : Packet} (e : p ≡ packet_at s place) (z : p.number ≡ 0) where
+  module _ {p : ToldPacket} (e : p ≡ packet_at s place) (z : p.number ≡ 0) where
     -- at the first step all are left
     pub first-left : left p.messages p.first ≡ messages_at s place now_us ok
     first-left = rw e (steps.in_order s place now_us ok (rw e at z))
@@ -77,7 +75,7 @@ module _ (s : List ℕ) (place now_us : ℕ) (ok : Bool) where
     first_few = rw e (limited s place (rw e at z))
 
   -- a packet of one message
-  pub only_message : {p : Packet} → p ≡ packet_at s place → p.number ≡ 0 → p.messages ≡ 1 → {m : PacketMessage} → m ≡ message_at s place p.first now_us ok
+  pub only_message : {p : ToldPacket} → p ≡ packet_at s place → p.number ≡ 0 → p.messages ≡ 1 → {m : ToldMessage} → m ≡ message_at s place p.first now_us ok
       → messages_at s place now_us ok ≡ m ∷ []
   unfolding stepped
   only_message {p} e z o g = rw g (sym (ap (λ (k : ℕ). left k p.first) (sym o) ∙ first-left e z))
@@ -105,7 +103,7 @@ at_join t [] b h g = g
 at_join t (c ∷ a) b h g = (h.0, at_join t a b h.1 g)
 
 -- those of a packet have the caller's
-pieces_at : (s : List ℕ) (kind long base now_us : ℕ) (ok : Bool) (ps : List Piece) → AllAt now_us (map (call_of s) (map (sent_from kind long base now_us ok) ps))
+pieces_at : (s : List ℕ) (kind long base now_us : ℕ) (ok : Bool) (ps : List ToldPiece) → AllAt now_us (map (call_of s) (map (sent_from kind long base now_us ok) ps))
 pieces_at s kind long base now_us ok [] = tt
 pieces_at s kind long base now_us ok (p ∷ ps) = (refl, pieces_at s kind long base now_us ok ps)
 

@@ -9,16 +9,14 @@ use borrow.Author.Tests.{ne_eqb, lt-ltb, le-ltb}
 use Rattle.laws.proofs.Cases.{choose, clash}
 use Rattle.lines.specs.Span.{part}
 use Rattle.packets.specs.Bodies.{piece_at}
-use Rattle.packets.specs.Header.{HeaderIn, length_at, body_from, header_refusal, header_of}
+use Rattle.packets.specs.Header.{HeaderIn, length_at, body_from, header_refusal, header_of, ToldHeader}
 use Rattle.packets.specs.Messages.{Placed, sent_from, no_message, piece_refusal, message_from, message_for, message_at}
-use Rattle.packets.specs.Piece.{PieceIn}
-use Rattle.packets.specs.declared.header.Header.{Header}
-use Rattle.packets.specs.declared.piece.Piece.{Piece}
+use Rattle.packets.specs.Piece.{PieceIn, ToldPiece}
 use Rattle.packets.proofs.header.LengthLaws.{Read, number_is, header_read}
 use Rattle.packets.proofs.packet.PacketLaws.{header_none}
 
 -- each way through a piece
-module _ (p : Piece) where
+module _ (p : ToldPiece) where
   pub piece_unread : p.fine ≡ false → piece_refusal p ≡ 32
   piece_unread f = choose (λ (n : ℕ). n ≡ 32) p.fine (λ u. clash u f) (λ _. refl)
 
@@ -29,11 +27,11 @@ module _ (p : Piece) where
   piece_fine f l = choose (λ (n : ℕ). n ≡ 0) p.fine (λ _. rw (le-ltb 128 (p.to - p.from) l)) (λ u. clash f u)
 
 module _ (s : List ℕ) (place step now_us : ℕ) (ok : Bool) where
-  pub message_unread : {h : Header} → h ≡ header_of s → (h.number ≡ 0 → ⊥) → no_message h.number ≡ message_for s place step now_us ok
+  pub message_unread : {h : ToldHeader} → h ≡ header_of s → (h.number ≡ 0 → ⊥) → no_message h.number ≡ message_for s place step now_us ok
   unfolding message_for
   message_unread e z = let n = number_is s e in rw (n, ne_eqb (header_refusal s) 0 (λ r. z (n ∙ r)))
 
-  module _ {h : Header} (e : h ≡ header_of s) (z : h.number ≡ 0) {p : Piece} (g : p ≡ piece_at h.kind h.flags (part s h.from h.to) step) where
+  module _ {h : ToldHeader} (e : h ≡ header_of s) (z : h.number ≡ 0) {p : ToldPiece} (g : p ≡ piece_at h.kind h.flags (part s h.from h.to) step) where
     abbrev read : Read s h
     read = header_read s e z
 
@@ -57,7 +55,7 @@ unfolding message_for
 message_none s step now_us ok h = rw (drop_of_length-le s h, header_none)
 
 -- a piece of a packet that is there may be made a message
-pub placed : (s : List ℕ) (place : ℕ) (h : Header) (p : Piece) → place + length s ≤ 18446744073709551615 → HeaderIn s h
+pub placed : (s : List ℕ) (place : ℕ) (h : ToldHeader) (p : ToldPiece) → place + length s ≤ 18446744073709551615 → HeaderIn s h
     → PieceIn (part s h.from h.to) p → p.to - p.from ≤ 128 → Placed h place p
 placed s place h p fits i q short =
     let b = length-take (h.to - h.from) (drop h.from s) in

@@ -13,13 +13,11 @@ use Rattle.monitor.specs.Runs.{Call}
 use Rattle.monitor.specs.declared.message.MqttMessage.{MqttMessage}
 use Rattle.packets.specs.Bodies.{pieces_of}
 use Rattle.packets.specs.Header.{length_at, type_of, flags_of, body_from, body_in}
-use Rattle.packets.specs.Messages.{sent_from, message_at, messages_of, messages_at}
-use Rattle.packets.specs.Packet.{packet_at}
+use Rattle.packets.specs.Messages.{sent_from, message_at, messages_of, messages_at, ToldMessage}
+use Rattle.packets.specs.Packet.{packet_at, ToldPacket}
 use Rattle.packets.specs.Steps.{stepped}
 use Rattle.packets.specs.Taken.{call_of, calls_at, Within}
-use Rattle.packets.specs.declared.messages.PacketMessage.{PacketMessage}
-use Rattle.packets.specs.declared.packet.Packet.{Packet}
-use Rattle.packets.specs.declared.piece.Piece.{Piece}
+use Rattle.packets.specs.Piece.{ToldPiece}
 use Rattle.packets.proofs.Missing.{missing, same_part}
 use Rattle.packets.proofs.messages.LeftLaws.{left, Good, good_both, good_now, first-left, first_good}
 
@@ -40,15 +38,15 @@ module _ (s t : List ℕ) (place now_us : ℕ) (ok : Bool) (z : (packet_at s pla
   same_steps zero step = refl
   same_steps (suc k) step =
       rw (missing.kept s t place step now_us ok not_31)
-      (ap (λ (ms : List PacketMessage). message_at s place step now_us ok ∷ ms) (same_steps k (message_at s place step now_us ok).next))
+      (ap (λ (ms : List ToldMessage). message_at s place step now_us ok ∷ ms) (same_steps k (message_at s place step now_us ok).next))
 
   same_messages : messages_at (s ++ t) place now_us ok ≡ messages_at s place now_us ok
   same_messages =
       let e = packet_before in
-      let n : (packet_at (s ++ t) place).number ≡ 0 = ap (λ (p : Packet). p.number) e ∙ z in
+      let n : (packet_at (s ++ t) place).number ≡ 0 = ap (λ (p : ToldPacket). p.number) e ∙ z in
       sym (first-left (s ++ t) place now_us ok (sym e) z) ∙ same_steps (packet_at s place).messages (packet_at s place).first ∙ first-left s place now_us ok refl z
 
-  same_call : (m : PacketMessage) → Within s place m → call_of (s ++ t) m ≡ call_of s m
+  same_call : (m : ToldMessage) → Within s place m → call_of (s ++ t) m ≡ call_of s m
   same_call m w =
       call_of_lem m.msg (same_part s t m.topic_from m.topic_to w.topic.1 (omega (arith, w.topic, w.whole)))
       (same_part s t m.payload_from m.payload_to w.payload.1 (omega (arith, w.payload, w.whole)))
@@ -78,7 +76,7 @@ module _ (s : List ℕ) (front place : ℕ) where
 
   module _ (now_us : ℕ) (ok : Bool) where
     -- one piece
-    moved : (kind long base : ℕ) (p : Piece)
+    moved : (kind long base : ℕ) (p : ToldPiece)
         → call_of (drop front s) (sent_from kind long (place + base) now_us ok p) ≡ call_of s (sent_from kind long (front + place + base) now_us ok p)
     moved kind long base p =
         let msg = (sent_from kind long (place + base) now_us ok p).msg in
@@ -87,7 +85,7 @@ module _ (s : List ℕ) (front place : ℕ) where
         call_of_lem msg (part_behind (place + base + p.from) (place + base + p.to) ∙ ap₂ (part s) (e p.from) (e p.to))
         (part_behind (place + base + p.rest) (place + base + p.rest + min (long - p.rest) 256) ∙ ap₂ (part s) (e p.rest) f)
 
-    all_moved : (kind long base : ℕ) (ps : List Piece)
+    all_moved : (kind long base : ℕ) (ps : List ToldPiece)
         → map (call_of (drop front s)) (map (sent_from kind long (place + base) now_us ok) ps) ≡ map (call_of s) (map (sent_from kind long (front + place + base) now_us ok) ps)
     all_moved kind long base [] = refl
     all_moved kind long base (p ∷ ps) = ap₂ (λ (c : Call) (cs : List Call). c ∷ cs) (moved kind long base p) (all_moved kind long base ps)

@@ -11,12 +11,9 @@ use Rattle.laws.specs.Lists.{every, some}
 use Rattle.laws.proofs.Cases.{by, by_le, choose, clash}
 use Rattle.laws.proofs.Tests.{both}
 use Rattle.packets.specs.Bodies.{body_built, pieces_of, first_step}
-use Rattle.packets.specs.Header.{byte_at, length_at, type_of, flags_of, size_of, body_in, header_refusal}
-use Rattle.packets.specs.Packet.{body_refusal, packet_refusal, packet_of, packet_at, PacketIn}
-use Rattle.packets.specs.Piece.{good_piece, is_long}
-use Rattle.packets.specs.declared.header.Length.{Length}
-use Rattle.packets.specs.declared.packet.Packet.{Packet}
-use Rattle.packets.specs.declared.piece.Piece.{Piece}
+use Rattle.packets.specs.Header.{byte_at, length_at, type_of, flags_of, size_of, body_in, header_refusal, ToldLength}
+use Rattle.packets.specs.Packet.{body_refusal, packet_refusal, packet_of, packet_at, PacketIn, ToldPacket}
+use Rattle.packets.specs.Piece.{good_piece, is_long, ToldPiece}
 use Rattle.packets.proofs.header.LengthLaws.{over_is, short_is}
 use Rattle.packets.proofs.packet.PacketLaws.{by_header, packet_number, header_first}
 
@@ -32,7 +29,7 @@ body_accepted : (kind flags : ℕ) (b : List ℕ) → body_refusal kind flags b 
     → (body_built kind flags b ≡ true) × (every (good_piece b) (pieces_of kind flags b) ≡ true) × (some is_long (pieces_of kind flags b) ≡ false)
 unfolding body_refusal
 body_accepted kind flags b =
-    let ps : List Piece = pieces_of kind flags b in
+    let ps : List ToldPiece = pieces_of kind flags b in
     let P : ℕ → Type 0 = λ (n : ℕ). n ≡ 0 → (body_built kind flags b ≡ true) × (every (good_piece b) ps ≡ true) × (some is_long ps ≡ false) in
     choose P (body_built kind flags b && every (good_piece b) ps)
     (λ g.
@@ -69,7 +66,7 @@ header_there s e =
 pub length_some : (s : List ℕ) (at : ℕ) → (length_at s at).over ≡ false → 1 ≤ (length_at s at).bytes
 unfolding length_at
 length_some s at =
-    let P : Length → Type 0 = λ (l : Length). l.over ≡ false → 1 ≤ l.bytes in
+    let P : ToldLength → Type 0 = λ (l : ToldLength). l.over ≡ false → 1 ≤ l.bytes in
     choose P (ltb (byte_at s at) 128) (λ _ _. omega arith)
     (λ _. choose P (ltb (byte_at s (at + 1)) 128) (λ _ _. omega arith)
     (λ _. choose P (ltb (byte_at s (at + 2)) 128) (λ _ _. omega arith)
@@ -77,7 +74,7 @@ length_some s at =
     (λ _ e. clash refl e))))
 
 -- where a packet lies
-pub packet_is : (s : List ℕ) (place : ℕ) {p : Packet} → p ≡ packet_at s place → (p ≡ packet_at s place) × PacketIn s place p
+pub packet_is : (s : List ℕ) (place : ℕ) {p : ToldPacket} → p ≡ packet_at s place → (p ≡ packet_at s place) × PacketIn s place p
 packet_is s place {p} e =
     let t : List ℕ = drop place s in
     let size : (packet_of t).number ≡ 0 → ((packet_of t).length ≡ size_of t) × (2 ≤ size_of t) × (place + size_of t ≤ length s) = λ z.

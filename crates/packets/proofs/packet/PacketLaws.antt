@@ -11,12 +11,10 @@ use Rattle.laws.proofs.Cases.{choose, whichever}
 use Rattle.laws.specs.Lists.{every, some}
 use Rattle.lines.specs.Span.{part}
 use Rattle.packets.specs.Bodies.{body_built, pieces_of, first_step, looked_at}
-use Rattle.packets.specs.Header.{length_at, type_of, flags_of, size_of, body_in, header_refusal, header_of}
-use Rattle.packets.specs.Packet.{body_refusal, packet_refusal, refused_packet, packet_of, packet_at}
+use Rattle.packets.specs.Header.{length_at, type_of, flags_of, size_of, body_in, header_refusal, header_of, ToldHeader}
+use Rattle.packets.specs.Packet.{body_refusal, packet_refusal, refused_packet, packet_of, packet_at, ToldPacket}
 use Rattle.packets.specs.Piece.{good_piece, is_long}
 use Rattle.packets.specs.declared.bodies.Looked.{Looked}
-use Rattle.packets.specs.declared.header.Header.{Header}
-use Rattle.packets.specs.declared.packet.Packet.{Packet}
 use Rattle.packets.proofs.header.LengthLaws.{Read, number_is, header_read}
 
 -- each way through a body
@@ -66,12 +64,12 @@ module _ (s : List ℕ) where
   -- its number is the refusal's
   pub packet_number : (packet_of s).number ≡ packet_refusal s
   unfolding packet_of
-  packet_number = choose (λ (p : Packet). p.number ≡ packet_refusal s) (eqb (packet_refusal s) 0) (λ z. sym (eqb-true _ _ z)) (λ _. refl)
+  packet_number = choose (λ (p : ToldPacket). p.number ≡ packet_refusal s) (eqb (packet_refusal s) 0) (λ z. sym (eqb-true _ _ z)) (λ _. refl)
 
-  pub unread : {h : Header} → h ≡ header_of s → (h.number ≡ 0 → ⊥) → refused_packet h.number ≡ packet_of s
+  pub unread : {h : ToldHeader} → h ≡ header_of s → (h.number ≡ 0 → ⊥) → refused_packet h.number ≡ packet_of s
   unread e z = let n = number_is s e in rw n (refused_by (header_first refl (λ r. z (n ∙ r))) (λ r. z (n ∙ r)))
 
-  module _ {h : Header} (e : h ≡ header_of s) (z : h.number ≡ 0) where
+  module _ {h : ToldHeader} (e : h ≡ header_of s) (z : h.number ≡ 0) where
     abbrev read : Read s h
     read = header_read s e z
 

@@ -6,16 +6,14 @@ use Prim.Native.Nat.{ℕ, ◌+◌, ◌-◌, ◌≤◌, ◌<◌}
 use lib.ListN.{length, length-append}
 use lib.Seq.{sets}
 use borrow.Author.Tests.{ne_eqb, le-leb, lt-leb}
-use Rattle.packets.specs.Messages.{message_at}
-use Rattle.packets.specs.Packet.{packet_at}
-use Rattle.packets.specs.declared.messages.PacketMessage.{PacketMessage}
-use Rattle.packets.specs.declared.packet.Packet.{Packet}
+use Rattle.packets.specs.Messages.{message_at, ToldMessage}
+use Rattle.packets.specs.Packet.{packet_at, ToldPacket}
 use Rattle.packets.proofs.messages.LeftLaws.{left, turn, none_left, first-left}
 use Rattle.packets_text.specs.PacketText.{text_of, texts_of, packet_text, lines_refusal, no_lines, lines_end, lines_kept}
 
 module _ (s : List ℕ) (place now_us : ℕ) (ok : Bool) where
   -- the message at a step of which some are left
-  module _ {k : ℕ} (step : ℕ) (h : 0 < k) {m : PacketMessage} (e : m ≡ message_at s place step now_us ok) where
+  module _ {k : ℕ} (step : ℕ) (h : 0 < k) {m : ToldMessage} (e : m ≡ message_at s place step now_us ok) where
     -- their lines
     pub turn_text : texts_of s (left s place now_us ok k step) ≡ text_of s m ++ texts_of s (left s place now_us ok (k - 1) m.next)
     unfolding texts_of
@@ -29,13 +27,13 @@ module _ (s : List ℕ) (place now_us : ℕ) (ok : Bool) where
   unfolding texts_of
   none_text step e = rw (none_left s place now_us ok step e)
 
-  module _ {p : Packet} (e : p ≡ packet_at s place) (z : p.number ≡ 0) where
+  module _ {p : ToldPacket} (e : p ≡ packet_at s place) (z : p.number ≡ 0) where
     -- at the first step all are left
     pub first_text : texts_of s (left s place now_us ok p.messages p.first) ≡ packet_text s place now_us ok
     first_text = ap (texts_of s) (first-left s place now_us ok e z)
 
   -- each way through the answer
-  module _ {p : Packet} (e : p ≡ packet_at s place) where
+  module _ {p : ToldPacket} (e : p ≡ packet_at s place) where
     pub refused_packet : (p.number ≡ 0 → ⊥) → (room : ℕ) → lines_refusal s place now_us ok room ≡ p.number
     unfolding lines_refusal
     refused_packet z room = rw (← e, ne_eqb _ 0 z)

@@ -1,8 +1,0 @@
--- `packets::fields::string_if` meets its contract. Assumes nothing.
-use Rattle.packets.proofs.fields.string_if.Goals as goal
-
-pub returns-then-wanted : goal.returns-then-wanted
-returns-then-wanted c = rw c.if-wanted.true c.string_field.ensures
-
-pub returns : goal.returns
-returns c = rw c.if-wanted.false
