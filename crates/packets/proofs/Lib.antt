@@ -1,3 +1,4 @@
 pub mod Missing
+pub mod RefusalLaws
 pub mod Steps
 pub mod Taken

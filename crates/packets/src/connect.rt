@@ -44,7 +44,7 @@ fn client_named(f: u8, client: Field) -> bool
 }
 
 // What follows the client id, as the flags say.
-#[tactic(auto, unfolding(crate::specs::Connect::connect_tail))]
+#[tactic(auto, using(crate::proofs::fields::FieldLaws::data_if_broken, crate::proofs::fields::FieldLaws::string_if_broken), unfolding(crate::specs::Connect::connect_tail))]
 fn connect_tail(f: u8, b: &[u8], client: Field) -> Option<Field>
     ensures { field_told result ≡ connect_tail f b.now (field_told (Some client)) }
 {
@@ -55,7 +55,7 @@ fn connect_tail(f: u8, b: &[u8], client: Field) -> Option<Field>
 }
 
 // The checks of section 3.1, but for the client id's own.
-#[tactic(auto, unfolding(crate::specs::Connect::connect_built))]
+#[tactic(auto, using(crate::proofs::connect::ConnectLaws::head_long, crate::proofs::connect::ConnectLaws::tail_broken), unfolding(crate::specs::Connect::connect_built, crate::specs::Fields::ends_behind))]
 pub fn connect_built(flags: u8, b: &[u8]) -> bool
     ensures { result ≡ connect_built flags b.now }
 {

@@ -9,7 +9,7 @@ use crate::piece::Piece;
 use crate::publish::is_identified;
 
 // The flags, the packet identifier, and that a filter follows.
-#[tactic(auto, unfolding(crate::specs::Filters::list_built))]
+#[tactic(auto, unfolding(crate::specs::Filters::list_built, crate::specs::Publish::identified))]
 pub fn list_built(flags: u8, b: &[u8]) -> bool
     ensures { result ≡ list_built flags b.now }
 {
@@ -31,7 +31,7 @@ fn request_fine(q: Field) -> bool
 }
 
 // The filter at a place: in a SUBSCRIBE the requested QoS follows it.
-#[tactic(auto, unfolding(crate::specs::Filters::filter_at, crate::specs::Filters::filter_from))]
+#[tactic(auto, using(crate::proofs::fields::FieldLaws::byte_if_broken), unfolding(crate::specs::Filters::filter_at, crate::specs::Filters::filter_from, crate::specs::Filters::request_fine))]
 pub fn filter_at(subscribe: bool, b: &[u8], at: usize) -> Option<Piece>
     ensures value { piece_told result ≡ filter_at subscribe b.now at }
     ensures within { FilterIn b.now at (piece_told result) }

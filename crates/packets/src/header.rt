@@ -37,22 +37,34 @@ fn length_at(s: &[u8], at: usize) -> Option<Length>
     let a = byte_at(s, at);
     let one = usize::from(a % 128);
     if a < 128 {
-        return Some(Length { bytes: 1, value: one });
+        return Some(Length {
+            bytes: 1,
+            value: one,
+        });
     }
     let b = byte_at(s, at + 1);
     let two = one + usize::from(b % 128) * 128;
     if b < 128 {
-        return Some(Length { bytes: 2, value: two });
+        return Some(Length {
+            bytes: 2,
+            value: two,
+        });
     }
     let c = byte_at(s, at + 2);
     let three = two + usize::from(c % 128) * 16384;
     if c < 128 {
-        return Some(Length { bytes: 3, value: three });
+        return Some(Length {
+            bytes: 3,
+            value: three,
+        });
     }
     let d = byte_at(s, at + 3);
     let four = three + usize::from(d % 128) * 2097152;
     if d < 128 {
-        return Some(Length { bytes: 4, value: four });
+        return Some(Length {
+            bytes: 4,
+            value: four,
+        });
     }
     None
 }

@@ -49,6 +49,7 @@ fn sent_from(h: Header, place: usize, now_us: u64, ok: bool, p: Piece) -> Packet
 }
 
 // The message at a step of the packet that some bytes, which stand at a place, begin with.
+#[tactic(auto, using(crate::proofs::messages::MessageLaws::message_err, crate::proofs::messages::MessageLaws::piece_err))]
 fn message_for(
     s: &[u8],
     place: usize,
@@ -60,7 +61,9 @@ fn message_for(
     ensures { message_told result ≡ message_for s.now place step now_us ok }
 {
     let h = read_header(s)?;
-    let p = piece_at(h.kind, h.flags, &s[h.from..h.to], step).ok_or(PacketRefusal::Malformed)?;
+    let Some(p) = piece_at(h.kind, h.flags, &s[h.from..h.to], step) else {
+        return Err(PacketRefusal::Malformed);
+    };
     if TOPIC_MAX < p.to - p.from {
         return Err(PacketRefusal::TooLong);
     }

@@ -15,6 +15,7 @@ pub struct Packet {
 }
 
 // The packet that some bytes begin with.
+#[tactic(auto, using(crate::proofs::packet::PacketLaws::packet_err))]
 fn packet_of(s: &[u8]) -> Result<Packet, PacketRefusal>
     ensures { packet_told result ≡ packet_of s.now }
 {

@@ -24,7 +24,7 @@ pub fn is_identified(due: bool, f: Field) -> bool
 }
 
 // The checks of section 3.3, but for the topic's own.
-#[tactic(auto, unfolding(crate::specs::Publish::publish_built))]
+#[tactic(auto, using(crate::proofs::fields::FieldLaws::number_if_broken), unfolding(crate::specs::Publish::publish_built, crate::specs::Publish::identified))]
 pub fn publish_built(flags: u8, b: &[u8]) -> bool
     ensures { result ≡ publish_built flags b.now }
 {
@@ -42,7 +42,7 @@ pub fn publish_built(flags: u8, b: &[u8]) -> bool
 }
 
 // The topic, the QoS, and where the payload begins.
-#[tactic(auto, unfolding(crate::specs::Publish::publish_piece))]
+#[tactic(auto, using(crate::proofs::fields::FieldLaws::number_if_broken), unfolding(crate::specs::Publish::publish_piece))]
 pub fn publish_piece(flags: u8, b: &[u8]) -> Option<Piece>
     ensures { piece_told result ≡ publish_piece flags b.now }
 {

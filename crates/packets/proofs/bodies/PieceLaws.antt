@@ -1,6 +1,5 @@
 -- Every piece lies in its body. Assumes nothing.
 use mathlib.Core.List.{List}
-use mathlib.Core.Path.{◌≡◌}
 use Prim.Native.Nat.{ℕ}
 use native.Mathlib.Omega.{arith}
 use lib.Dec.{eqb}
@@ -8,7 +7,7 @@ use Rattle.laws.proofs.Cases.{choose}
 use Rattle.packets.specs.Bodies.{is_list, piece_at}
 use Rattle.packets.specs.Connect.{client_field, connect_piece}
 use Rattle.packets.specs.Fields.{begin}
-use Rattle.packets.specs.Piece.{PieceIn, plain_piece, ToldPiece}
+use Rattle.packets.specs.Piece.{PieceIn, plain_piece}
 use Rattle.packets.specs.Publish.{has_id, topic_field, id_field, publish_piece}
 use Rattle.packets.proofs.fields.FieldLaws.{data_inside, number_if_ended}
 use Rattle.packets.proofs.filters.WalkLaws.{none_in, filter_in}
@@ -17,13 +16,13 @@ module _ (b : List ℕ) where
   plain_in : PieceIn b (plain_piece b)
   plain_in = record { ordered = omega arith; inside = omega arith; payload = omega arith; after = omega arith }
 
-  connect_in : PieceIn b (connect_piece b)
+  pub connect_in : PieceIn b (connect_piece b)
   unfolding connect_piece
   connect_in =
       let i = data_inside b (begin 10) in
       choose (PieceIn b) (client_field b).fine (λ _. record { ordered = i.ordered; inside = i.ended; payload = omega arith; after = omega arith }) (λ _. none_in b)
 
-  publish_in : (flags : ℕ) → PieceIn b (publish_piece flags b)
+  pub publish_in : (flags : ℕ) → PieceIn b (publish_piece flags b)
   unfolding publish_piece
   publish_in flags =
       let i = data_inside b (begin 0) in
@@ -38,7 +37,3 @@ piece_in kind flags b step =
     (λ _. choose (PieceIn b) (eqb kind 3) (λ _. publish_in b flags)
     (λ _. choose (PieceIn b) (is_list kind) (λ _. (filter_in (eqb kind 8) b step).lies)
     (λ _. plain_in b)))
-
--- so whatever equals it lies there, too
-pub piece_is : (kind flags : ℕ) (b : List ℕ) (step : ℕ) {p : ToldPiece} → p ≡ piece_at kind flags b step → (p ≡ piece_at kind flags b step) × PieceIn b p
-piece_is kind flags b step e = (e, rw e (piece_in kind flags b step))

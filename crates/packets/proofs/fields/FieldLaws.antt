@@ -7,9 +7,10 @@ use native.Mathlib.Omega.{arith}
 use lib.Dec.{leb}
 use lib.ListN.{length}
 use borrow.Author.Tests.{leb-true, le-leb}
-use Rattle.laws.proofs.Cases.{choose, clash}
+use Rattle.laws.proofs.Cases.{choose, clash, whichever}
 use Rattle.laws.proofs.Tests.{both, alike}
-use Rattle.packets.specs.Fields.{Inside, broken_field, room_behind, byte_field, number_field, data_of, data_field, byte_if, number_if, ToldField}
+use Rattle.lines.specs.Span.{part}
+use Rattle.packets.specs.Fields.{Inside, is_string, broken_field, room_behind, byte_field, number_field, data_of, data_field, string_of, string_field, byte_if, number_if, data_if, string_if, ToldField}
 
 -- a comparison that cannot overflow is the same
 pub leb_less : (a n l : ℕ) → n ≤ l → leb a (l - n) ≡ leb (a + n) l
@@ -66,6 +67,28 @@ module _ (b : List ℕ) (f : ToldField) where
       let d = data_of_behind b (number_field b f) e in
       let n = number_behind b f d.0 in
       (n.0, omega arith)
+
+-- behind a broken field every field is broken
+module _ (b : List ℕ) where
+  pub byte_if_broken : (wanted : Bool) → byte_if wanted b broken_field ≡ broken_field
+  unfolding byte_field room_behind
+  byte_if_broken true = refl
+  byte_if_broken false = refl
+
+  pub number_if_broken : (wanted : Bool) → number_if wanted b broken_field ≡ broken_field
+  unfolding number_field room_behind
+  number_if_broken true = refl
+  number_if_broken false = refl
+
+  pub data_if_broken : (wanted : Bool) → data_if wanted b broken_field ≡ broken_field
+  unfolding data_field data_of number_field room_behind
+  data_if_broken true = refl
+  data_if_broken false = refl
+
+  pub string_if_broken : (wanted : Bool) → string_if wanted b broken_field ≡ broken_field
+  unfolding string_field string_of data_field data_of number_field room_behind
+  string_if_broken true = whichever (λ (d : ToldField). d ≡ broken_field) (is_string (part b 0 0)) refl refl
+  string_if_broken false = refl
 
 -- a field that is there only where it is wanted
 pub byte_if_behind : (wanted : Bool) (b : List ℕ) (f : ToldField) → Behind f 0 (byte_if wanted b f)

@@ -4,14 +4,19 @@ use mathlib.Core.List.{List}
 use mathlib.Core.Path.{◌≡◌, refl, sym, ◌∙◌}
 use Prim.Native.Nat.{ℕ, ◌+◌, ◌-◌, ◌≤◌, ◌<◌}
 use native.Mathlib.Omega.{arith}
+use Rattle.std.specs.Prelude.{Ok, None}
 use lib.ListN.{length, drop, drop_of_length-le, length-take}
 use borrow.Author.Tests.{ne_eqb, lt-ltb, le-ltb}
 use Rattle.laws.proofs.Cases.{choose, clash}
 use Rattle.lines.specs.Span.{part}
 use Rattle.packets.specs.Bodies.{piece_at}
-use Rattle.packets.specs.Header.{HeaderIn, length_at, body_from, header_refusal, header_of, ToldHeader}
+use Rattle.packets.specs.Header.{HeaderIn, length_at, body_from, header_refusal, refused_header, header_told, header_of, ToldHeader}
 use Rattle.packets.specs.Messages.{Placed, sent_from, no_message, piece_refusal, message_from, message_for, message_at}
-use Rattle.packets.specs.Piece.{PieceIn, ToldPiece}
+use Rattle.packets.specs.Piece.{PieceIn, piece_told, ToldPiece}
+use Rattle.packets.specs.Refusal.{refusal_number}
+use Rattle.packets.specs.declared.header.Header.{Header}
+use Rattle.packets.specs.declared.refusal.PacketRefusal.{PacketRefusal}
+use Rattle.packets.proofs.RefusalLaws.{refusal_some}
 use Rattle.packets.proofs.header.LengthLaws.{Read, number_is, header_read}
 use Rattle.packets.proofs.packet.PacketLaws.{header_none}
 
@@ -48,6 +53,14 @@ module _ (s : List ℕ) (place step now_us : ℕ) (ok : Bool) where
     from_piece r =
         let v : body_from s + (length_at s 1).value - body_from s ≡ (length_at s 1).value = omega arith in
         sym (by_piece ∙ rw (r, read.kind, read.to, read.from, v))
+
+  -- a header that is refused, and a piece that is not there
+  pub message_err : (e : PacketRefusal) → refused_header (refusal_number e) ≡ header_of s → no_message (refusal_number e) ≡ message_for s place step now_us ok
+  message_err e r = message_unread r (refusal_some e)
+
+  pub piece_err : {h : Header} → header_told (Ok h) ≡ header_of s → piece_told None ≡ piece_at h.kind h.flags (part s h.from h.to) step
+      → no_message 32 ≡ message_for s place step now_us ok
+  piece_err e g = no_piece e refl g (piece_unread (piece_told None) refl) (λ z. absurd (omega arith))
 
 -- a place without bytes
 pub message_none : (s : List ℕ) {place : ℕ} (step now_us : ℕ) (ok : Bool) → length s ≤ place → no_message 31 ≡ message_at s place step now_us ok

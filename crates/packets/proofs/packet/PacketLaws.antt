@@ -11,10 +11,13 @@ use Rattle.laws.proofs.Cases.{choose, whichever}
 use Rattle.laws.specs.Lists.{every, some}
 use Rattle.lines.specs.Span.{part}
 use Rattle.packets.specs.Bodies.{body_built, pieces_of, first_step, looked_at}
-use Rattle.packets.specs.Header.{length_at, type_of, flags_of, size_of, body_in, header_refusal, header_of, ToldHeader}
+use Rattle.packets.specs.Header.{length_at, type_of, flags_of, size_of, body_in, header_refusal, refused_header, header_of, ToldHeader}
 use Rattle.packets.specs.Packet.{body_refusal, packet_refusal, refused_packet, packet_of, packet_at, ToldPacket}
 use Rattle.packets.specs.Piece.{good_piece, is_long}
 use Rattle.packets.specs.declared.bodies.Looked.{Looked}
+use Rattle.packets.specs.Refusal.{refusal_number}
+use Rattle.packets.specs.declared.refusal.PacketRefusal.{PacketRefusal}
+use Rattle.packets.proofs.RefusalLaws.{refusal_some}
 use Rattle.packets.proofs.header.LengthLaws.{Read, number_is, header_read}
 
 -- each way through a body
@@ -68,6 +71,10 @@ module _ (s : List ℕ) where
 
   pub unread : {h : ToldHeader} → h ≡ header_of s → (h.number ≡ 0 → ⊥) → refused_packet h.number ≡ packet_of s
   unread e z = let n = number_is s e in rw n (refused_by (header_first refl (λ r. z (n ∙ r))) (λ r. z (n ∙ r)))
+
+  -- a header that is refused
+  pub packet_err : (e : PacketRefusal) → refused_header (refusal_number e) ≡ header_of s → refused_packet (refusal_number e) ≡ packet_of s
+  packet_err e r = unread r (refusal_some e)
 
   module _ {h : ToldHeader} (e : h ≡ header_of s) (z : h.number ≡ 0) where
     abbrev read : Read s h
