@@ -42,6 +42,7 @@ impl<'a> Received<'a> {
         m.plan_for(&message.msg, topic, payload)
     }
 
+    #[tactic(auto, unfolding(crate::specs::Several::light_for))]
     // What it decides of a message that asks no table, with other counters than its own.
     pub(crate) fn plan_light(
         &self,

@@ -1,6 +1,6 @@
 // A packet of several messages: a SUBSCRIBE or an UNSUBSCRIBE, each filter of which is one. They ask no table (monitor/specs/Light.antt): what they answer follows from the rules and the counters. So
 // all of their records are measured before any of them is inspected, with no copy of the state.
-ghost use Rattle.std.specs.Prelude.{◌≡◌, ◌+◌, ◌^◌, ◌<◌, true, cond, leb, length, IsOk, IfOk};
+ghost use Rattle.std.specs.Prelude.{◌≡◌, ◌+◌, ◌^◌, ◌≤◌, ◌<◌, true, cond, leb, length, IsOk, IfOk, IfErr};
 ghost use Rattle.laws.specs.Refusals.{refusal};
 ghost use Rattle.lines.specs.Wrote.{Wrote};
 ghost use Rattle.monitor.specs.Runs.{shipped, after_by};

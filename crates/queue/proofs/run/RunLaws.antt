@@ -19,9 +19,10 @@ use Rattle.trace.specs.AsRun.{records_text}
 use Rattle.packets.specs.Messages.{messages_at}
 use Rattle.packets.specs.Packet.{first_of, packet_at}
 use Rattle.packets.specs.Taken.{call_of, calls_at}
-use Rattle.packets.specs.declared.refusal.PacketRefusal.TheVariants.{Incomplete, Malformed, TooLong}
+use Rattle.packets.proofs.RefusalLaws.{refusal_some}
 use Rattle.packets.proofs.Steps.{steps}
 use Rattle.packets.proofs.messages.LeftLaws.{calls_exact}
+use Rattle.packets.proofs.packet.AcceptedLaws.{packet_is}
 use Rattle.queue.specs.Queue.{Wake, wake_of, records_from, records_of, queue_refusal, Ran, ends_at, ran_of, QueueEnd, ended, end_of, queue_end, queue_kept}
 use Rattle.queue.specs.Refusal.{queue_number}
 use Rattle.queue.specs.Turn.{Goes, Stops}
@@ -36,9 +37,7 @@ use Rattle.queue.proofs.several.LoopLaws.{fits_less}
 number_real : (e : QueueRefusal) → queue_number e ≡ 0 → ⊥
 number_real BadState z = absurd (omega (arith, z))
 number_real NoRoom z = absurd (omega (arith, z))
-number_real (BadPacket Incomplete) z = absurd (omega (arith, z))
-number_real (BadPacket Malformed) z = absurd (omega (arith, z))
-number_real (BadPacket TooLong) z = absurd (omega (arith, z))
+number_real (BadPacket e) z = refusal_some e z
 
 -- what is handed back, from its parts
 end_is : (m₀ : MqttMonitor) (number at : ℕ) (sent : List Call) {done p : ℕ} {m : MqttMonitor} → done ≡ length sent → p ≡ length (records_of m₀ sent) → m ≡ after_by shipped m₀ sent
@@ -92,13 +91,13 @@ module _ (m₀ : MqttMonitor) (s : List ℕ) (time : ℕ) (ok : Bool) (d₀ : Li
     state_formed = rw i.state (run_formed i.sent m₀ i.formed i.exact)
 
     -- it ends
-    run_end : {x : RunEnd} → x.reached ≡ r → left m₀ wake r.place i.sent ≡ ends_at (ended x m).number r.place i.sent → Ended d m x
-    run_end {x} q e =
+    run_end : (x : RunEnd) → x.reached ≡ r → left m₀ wake r.place i.sent ≡ ends_at (ended x m).number r.place i.sent → Ended d m x
+    run_end x q e =
         let f = sym (i.run ∙ e) in
         (rw q (end_is m₀ (ended x m).number r.place i.sent i.count place_is i.state ∙ ap (end_of m₀) f), i.wrote.bytes ∙ ap (λ (a : Ran). sets d₀ 0 (records_of m₀ a.sent)) f)
 
     pub run_over : length s ≤ r.place → Ended d m (record { outcome = Ok tt; reached = r })
-    run_over h = run_end refl (left_end m₀ wake r.place i.sent h)
+    run_over h = run_end (record { outcome = Ok tt; reached = r }) refl (left_end m₀ wake r.place i.sent h)
 
     module _ (h : r.place < length s) where
       abbrev calls : List Call
@@ -123,7 +122,7 @@ module _ (m₀ : MqttMonitor) (s : List ℕ) (time : ℕ) (ok : Bool) (d₀ : Li
 
       pub run_stop : {m' : MqttMonitor} {d' : List ℕ} {e : QueueRefusal} → Stops s time ok m m' d d' r e → Ended d' m' (record { outcome = Err e; reached = r })
       run_stop {e = e} g =
-          rw (g.state, g.buffer) (run_end refl (left_stop m₀ wake r.place i.sent h (refusal_here ∙ sym g.number) (number_real e)))
+          rw (g.state, g.buffer) (run_end (record { outcome = Err e; reached = r }) refl (left_stop m₀ wake r.place i.sent h (refusal_here ∙ sym g.number) (number_real e)))
 
       pub run_turn : {m' : MqttMonitor} {d' : List ℕ} {to : Reached} → Goes s time ok m m' d d' r to → Running d' m' to
       run_turn {to = to} g =
@@ -143,3 +142,7 @@ module _ (m₀ : MqttMonitor) (s : List ℕ) (time : ℕ) (ok : Bool) (d₀ : Li
                 i.run ∙ left_turn m₀ wake r.place i.sent h (refused_none m₀ wake r.place i.sent refl g.good (omega (arith, all_long, fit)))
                 ∙ ap (λ (k : ℕ). left m₀ wake k (i.sent ++ calls)) (sym g.place);
           }
+
+-- a packet that is done takes bytes
+pub goes_on : {s : List ℕ} {time : ℕ} {ok : Bool} {m m' : MqttMonitor} {d d' : List ℕ} {r to : Reached} → Goes s time ok m m' d d' r to → r.place + 2 ≤ to.place
+goes_on {s = s} {r = r} g = omega (arith, g.place, (packet_is s r.place refl).1.some g.good)

@@ -1,12 +1,13 @@
 -- The two loops over the messages of a packet: what is left to be measured, or to be written, at a step. Assumes nothing.
 use mathlib.Core.Bool.{Bool, true, false, not, ◌||◌}
-use mathlib.Core.List.{List, [], ◌∷◌, ◌++◌, map}
+use mathlib.Core.List.{List, [], ◌∷◌, ◌++◌, map, append-nil}
 use mathlib.Core.Path.{◌≡◌, refl, sym, ap, ◌∙◌}
 use Prim.Native.Nat.{ℕ, ◌+◌, ◌-◌, ◌≤◌, ◌<◌}
 use native.Mathlib.Omega.{arith}
 use lib.Dec.{eqb, leb}
 use lib.ListN.{length, length-append}
 use borrow.Author.Tests.{eqb-true, leb-true, le-leb, lt-leb}
+use Rattle.std.specs.Prelude.{Err}
 use Rattle.laws.specs.Lists.{every}
 use Rattle.laws.proofs.Every.{every_both}
 use Rattle.laws.proofs.Tests.{alike, either}
@@ -17,17 +18,20 @@ use Rattle.monitor.specs.Message.{type_number}
 use Rattle.monitor.specs.Plan.{plan_of}
 use Rattle.monitor.specs.Runs.{Call, Exact, shipped, after_by, replies_by}
 use Rattle.monitor.specs.State.{well_formed, matcher_of}
+use Rattle.monitor.specs.declared.inspection.Inspected.{Inspected}
 use Rattle.monitor.specs.declared.plan.Plan.{Plan}
 use Rattle.monitor.specs.declared.state.MqttMonitor.{MqttMonitor}
 use Rattle.monitor.proofs.Replies.{shipped_done, done_formed}
 use Rattle.trace.specs.AsRun.{records_text}
 use Rattle.trace.specs.Record.{record_text}
 use Rattle.packets.specs.Bodies.{is_list}
-use Rattle.packets.specs.Messages.{ToldMessage, message_at, messages_at}
+use Rattle.packets.specs.Messages.{ToldMessage, message_told, message_at, messages_at}
 use Rattle.packets.specs.Packet.{ToldPacket, packet_at}
 use Rattle.packets.specs.Steps.{is_listed}
 use Rattle.packets.specs.Taken.{topic_bytes, payload_bytes, call_of, calls_at, Within}
 use Rattle.packets.specs.declared.packet.Packet.{Packet}
+use Rattle.packets.specs.declared.refusal.PacketRefusal.{PacketRefusal}
+use Rattle.packets.proofs.RefusalLaws.{refusal_some}
 use Rattle.packets.proofs.Steps.{steps}
 use Rattle.packets.proofs.messages.LeftLaws.{within_exact, calls_exact, left, Good, turn, good_both, good_now, good_next, none_left, first-left, first_good}
 use Rattle.queue.specs.Queue.{records_from}
@@ -61,23 +65,45 @@ module _ (s : List ℕ) (place now_us : ℕ) (ok : Bool) where
   first_fine e = first_good s place now_us ok e refl
 
   -- none at the end
-  pub none_calls : {k : ℕ} (step : ℕ) → k ≤ 0 → left_calls k step ≡ []
+  none_calls : {k : ℕ} (step : ℕ) → k ≤ 0 → left_calls k step ≡ []
   none_calls step h = ap (map (call_of s)) (none_left s place now_us ok step (omega (arith, h)))
 
+  pub none_text : {k : ℕ} (book : Rulebook) (n id sum step : ℕ) → k ≤ 0 → light_text book n id sum (left_calls k step) ≡ []
+  unfolding light_text
+  none_text book n id sum step h = rw (none_calls step h)
+
+  pub none_records : {k : ℕ} (m : MqttMonitor) (n step : ℕ) → k ≤ 0 → records_from n m (left_calls k step) ≡ []
+  unfolding records_text replies_by
+  none_records m n step h = rw (none_calls step h)
+
+  pub none_after : {k : ℕ} (m : MqttMonitor) (step : ℕ) → k ≤ 0 → after_by shipped m (left_calls k step) ≡ m
+  unfolding after_by
+  none_after m step h = rw (none_calls step h)
+
   -- one message more
-  module _ {k : ℕ} (step : ℕ) (h : 0 < k) (g : Good s place now_us ok k step) {x : ToldMessage} (e : x ≡ message_at s place step now_us ok) where
+  module _ {k : ℕ} (j step : ℕ) (q : k ≡ j + 1) (g : Good s place now_us ok k step) {x : ToldMessage} (e : x ≡ message_at s place step now_us ok) where
+    some : 0 < k
+    some = omega (arith, q)
+
+    less : k - 1 ≡ j
+    less = omega (arith, q)
+
     -- it is there
     pub taken_number : x.number ≡ 0
-    taken_number = eqb-true x.number 0 (good_both s place now_us ok step h e g).0
+    taken_number = eqb-true x.number 0 (good_both s place now_us ok step some e g).0
+
+    -- so reading it is not refused
+    pub never_refused : (e : PacketRefusal) → x ≡ message_told (Err e) → ⊥
+    never_refused e r = refusal_some e (sym (ap (λ (y : ToldMessage). y.number) r) ∙ taken_number)
 
     pub taken_within : Within s place x
-    taken_within = good_now s place now_us ok step h e g
+    taken_within = good_now s place now_us ok step some e g
 
-    pub taken_next : Good s place now_us ok (k - 1) x.next
-    taken_next = good_next s place now_us ok step h e g
+    pub taken_next : Good s place now_us ok j x.next
+    taken_next = rw less at (good_next s place now_us ok step some e g)
 
-    one_call : left_calls k step ≡ call_of s x ∷ left_calls (k - 1) x.next
-    one_call = ap (map (call_of s)) (turn s place now_us ok step h e)
+    one_call : left_calls k step ≡ call_of s x ∷ left_calls j x.next
+    one_call = ap (map (call_of s)) (turn s place now_us ok step some e) ∙ ap (λ (i : ℕ). call_of s x ∷ left_calls i x.next) less
 
     -- measured, where it asks no table
     module _ (book : Rulebook) (n id sum : ℕ) {p : Plan} (f : p ≡ light_for book id sum (call_of s x)) {need : ℕ} (l : need ≡ length (record_text n (result_of p))) where
@@ -85,7 +111,7 @@ module _ (s : List ℕ) (place now_us : ℕ) (ok : Bool) where
       all = light_text book n id sum (left_calls k step)
 
       abbrev rest : List ℕ
-      rest = light_text book (n + 1) p.raised.next_id p.raised.total (left_calls (k - 1) x.next)
+      rest = light_text book (n + 1) p.raised.next_id p.raised.total (left_calls j x.next)
 
       long : length all ≡ need + length rest
       unfolding light_text
@@ -105,17 +131,38 @@ module _ (s : List ℕ) (place now_us : ℕ) (ok : Bool) where
       pub formed_turn : well_formed (applied m p) ≡ true
       formed_turn = rw f (done_formed m (call_of s x) w (within_exact s place x taken_within))
 
-      pub records_turn : (n : ℕ) → records_from n m (left_calls k step) ≡ record_text n (result_of p) ++ records_from (n + 1) (applied m p) (left_calls (k - 1) x.next)
+      pub records_turn : (n : ℕ) → records_from n m (left_calls k step) ≡ record_text n (result_of p) ++ records_from (n + 1) (applied m p) (left_calls j x.next)
       unfolding records_text replies_by
       records_turn n = rw (one_call, done)
 
-      pub state_turn : after_by shipped m (left_calls k step) ≡ after_by shipped (applied m p) (left_calls (k - 1) x.next)
+      pub state_turn : after_by shipped m (left_calls k step) ≡ after_by shipped (applied m p) (left_calls j x.next)
       unfolding after_by
-      state_turn = rw (one_call, done)
+      state_turn = rw one_call (ap (λ (r : Inspected). after_by shipped r.monitor (left_calls j x.next)) done)
 
-      pub going_turn : {n : ℕ} {d o o' all : List ℕ} {from r r' : ℕ} → Going d o from r all (records_from n m (left_calls k step)) → Wrote o o' r (record_text n (result_of p)) r'
-          → Going d o' from r' all (records_from (n + 1) (applied m p) (left_calls (k - 1) x.next))
-      going_turn {n} inv v = λ f q z. inv f q (rw (records_turn n) (wrote_then v z))
+      pub going_turn : (n : ℕ) {d o o' all : List ℕ} {from r r' : ℕ} → Going d o from r all (records_from n m (left_calls k step)) → Wrote o o' r (record_text n (result_of p)) r'
+          → Going d o' from r' all (records_from (n + 1) (applied m p) (left_calls j x.next))
+      going_turn n inv v = λ f u z. inv f u (rw (records_turn n) (wrote_then v z))
+
+  -- a packet of one message, by its plan
+  module _ {packet : Packet} (r : IsRead s place packet) (o : packet.messages ≡ 1) {x : ToldMessage} (e : x ≡ message_at s place packet.first now_us ok) where
+    one_more : packet.messages ≡ 0 + 1
+    one_more = omega (arith, o)
+
+    pub one_refused : (e : PacketRefusal) → x ≡ message_told (Err e) → ⊥
+    one_refused = never_refused 0 packet.first one_more (first_fine r) e
+
+    pub one_within : Within s place x
+    one_within = taken_within 0 packet.first one_more (first_fine r) e
+
+    module _ (m : MqttMonitor) (w : well_formed m ≡ true) {p : Plan} (f : p ≡ plan_of (matcher_of m) m x.msg (topic_bytes s x) (payload_bytes s x)) where
+      pub one_records : (n : ℕ) → records_from n m (calls_at s place now_us ok) ≡ record_text n (result_of p)
+      one_records n =
+          ap (records_from n m) (sym (first_calls r)) ∙ records_turn 0 packet.first one_more (first_fine r) e m w f n
+          ∙ ap (λ (t : List ℕ). record_text n (result_of p) ++ t) (none_records (applied m p) (n + 1) x.next (omega arith)) ∙ append-nil (record_text n (result_of p))
+
+      pub one_state : after_by shipped m (calls_at s place now_us ok) ≡ applied m p
+      one_state =
+          ap (after_by shipped m) (sym (first_calls r)) ∙ state_turn 0 packet.first one_more (first_fine r) e m w f ∙ none_after (applied m p) x.next (omega arith)
 
 -- a list is neither a CONNECT nor a Publish
 not_listed : (kind : ℕ) → is_list kind ≡ true → not (eqb kind 1 || eqb kind 3) ≡ true
