@@ -19,7 +19,6 @@ use Rattle.trace.specs.AsRun.{records_text}
 use Rattle.packets.specs.Messages.{messages_at}
 use Rattle.packets.specs.Packet.{first_of, packet_at}
 use Rattle.packets.specs.Taken.{call_of, calls_at}
-use Rattle.packets.proofs.RefusalLaws.{refusal_some}
 use Rattle.packets.proofs.Steps.{steps}
 use Rattle.packets.proofs.messages.LeftLaws.{calls_exact}
 use Rattle.packets.proofs.packet.AcceptedLaws.{packet_is}
@@ -27,17 +26,12 @@ use Rattle.queue.specs.Queue.{Wake, wake_of, records_from, records_of, queue_ref
 use Rattle.queue.specs.Refusal.{queue_number}
 use Rattle.queue.specs.Turn.{Goes, Stops}
 use Rattle.queue.specs.declared.refusal.QueueRefusal.{QueueRefusal}
-use Rattle.queue.specs.declared.refusal.QueueRefusal.TheVariants.{BadState, NoRoom, BadPacket}
+use Rattle.queue.specs.declared.refusal.QueueRefusal.TheVariants.{BadState}
 use Rattle.queue.specs.declared.run.Reached.{Reached}
 use Rattle.queue.specs.declared.run.RunEnd.{RunEnd}
+use Rattle.queue.proofs.RefusalLaws.{queue_some}
 use Rattle.queue.proofs.run.RanLaws.{records_join, formless, left, left_end, left_stop, left_turn, refused_none}
 use Rattle.queue.proofs.several.LoopLaws.{fits_less}
-
--- each refusal has a number
-number_real : (e : QueueRefusal) → queue_number e ≡ 0 → ⊥
-number_real BadState z = absurd (omega (arith, z))
-number_real NoRoom z = absurd (omega (arith, z))
-number_real (BadPacket e) z = refusal_some e z
 
 -- what is handed back, from its parts
 end_is : (m₀ : MqttMonitor) (number at : ℕ) (sent : List Call) {done p : ℕ} {m : MqttMonitor} → done ≡ length sent → p ≡ length (records_of m₀ sent) → m ≡ after_by shipped m₀ sent
@@ -122,7 +116,7 @@ module _ (m₀ : MqttMonitor) (s : List ℕ) (time : ℕ) (ok : Bool) (d₀ : Li
 
       pub run_stop : {m' : MqttMonitor} {d' : List ℕ} {e : QueueRefusal} → Stops s time ok m m' d d' r e → Ended d' m' (record { outcome = Err e; reached = r })
       run_stop {e = e} g =
-          rw (g.state, g.buffer) (run_end (record { outcome = Err e; reached = r }) refl (left_stop m₀ wake r.place i.sent h (refusal_here ∙ sym g.number) (number_real e)))
+          rw (g.state, g.buffer) (run_end (record { outcome = Err e; reached = r }) refl (left_stop m₀ wake r.place i.sent h (refusal_here ∙ sym g.number) (queue_some e)))
 
       pub run_turn : {m' : MqttMonitor} {d' : List ℕ} {to : Reached} → Goes s time ok m m' d d' r to → Running d' m' to
       run_turn {to = to} g =

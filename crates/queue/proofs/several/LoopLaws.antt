@@ -1,14 +1,15 @@
 -- The two loops over the messages of a packet: what is left to be measured, or to be written, at a step. Assumes nothing.
-use mathlib.Core.Bool.{Bool, true, false, not, ◌||◌}
+use mathlib.Core.Bool.{Bool, true, false, cond, not, ◌||◌}
 use mathlib.Core.List.{List, [], ◌∷◌, ◌++◌, map, append-nil}
 use mathlib.Core.Path.{◌≡◌, refl, sym, ap, ◌∙◌}
 use Prim.Native.Nat.{ℕ, ◌+◌, ◌-◌, ◌≤◌, ◌<◌}
 use native.Mathlib.Omega.{arith}
 use lib.Dec.{eqb, leb}
 use lib.ListN.{length, length-append}
-use borrow.Author.Tests.{eqb-true, leb-true, le-leb, lt-leb}
+use borrow.Author.Tests.{eqb-true, leb-true, leb-false, le-leb, lt-leb}
 use Rattle.std.specs.Prelude.{Err}
 use Rattle.laws.specs.Lists.{every}
+use Rattle.laws.proofs.Cases.{by}
 use Rattle.laws.proofs.Every.{every_both}
 use Rattle.laws.proofs.Tests.{alike, either}
 use Rattle.lines.specs.Wrote.{Wrote}
@@ -181,3 +182,10 @@ several_records s place now_us ok e more m w n =
     let z : (packet_at s place).number ≡ 0 = rw (← e) in
     let several = steps.several s place now_us ok z (λ o. more (ap (λ (q : ToldPacket). q.messages) e ∙ o)) in
     sym (records_light (calls_at s place now_us ok) m n w (calls_exact s place now_us ok z) (listed_light s (messages_at s place now_us ok) several))
+
+-- what the test of the room says
+pub room_fits : (long room : ℕ) → ◌≡◌ {A = ℕ} 0 (cond (leb long room) 0 28) → long ≤ room
+room_fits long room e = by (leb long room) (leb-true long room) (λ f. absurd (omega (arith, rw f at e)))
+
+pub room_full : (long room number : ℕ) → (number ≡ 0 → ⊥) → number ≡ cond (leb long room) 0 28 → (number ≡ 28) × (room < long)
+room_full long room number z e = by (leb long room) (λ t. absurd (z (rw t at e))) (λ f. (rw f at e, leb-false long room f))
