@@ -32,14 +32,27 @@ impl<'a> Received<'a> {
         message_at(self.bytes, self.place, step, self.now_us, self.ok)
     }
 
+    // The bytes of a message's topic, and of the inspected part of its payload.
+    fn topic(&self, message: &PacketMessage) -> &[u8]
+        requires { Within self.now.bytes.now self.now.place (message_told (Ok message.now)) }
+        ensures { result.now ≡ topic_bytes self.now.bytes.now (message_told (Ok message.now)) }
+    {
+        &self.bytes[message.topic_from..message.topic_to]
+    }
+
+    fn payload(&self, message: &PacketMessage) -> &[u8]
+        requires { Within self.now.bytes.now self.now.place (message_told (Ok message.now)) }
+        ensures { result.now ≡ payload_bytes self.now.bytes.now (message_told (Ok message.now)) }
+    {
+        &self.bytes[message.payload_from..message.payload_to]
+    }
+
     // What the monitor decides of a message.
     pub(crate) fn plan(&self, m: &MqttMonitor, message: &PacketMessage) -> Plan
         requires { Within self.now.bytes.now self.now.place (message_told (Ok message.now)) }
         ensures { result ≡ plan_of (matcher_of m.now) m.now message.now.msg (topic_bytes self.now.bytes.now (message_told (Ok message.now))) (payload_bytes self.now.bytes.now (message_told (Ok message.now))) }
     {
-        let topic = &self.bytes[message.topic_from..message.topic_to];
-        let payload = &self.bytes[message.payload_from..message.payload_to];
-        m.plan_for(&message.msg, topic, payload)
+        m.plan_for(&message.msg, self.topic(message), self.payload(message))
     }
 
     #[tactic(auto, unfolding(crate::specs::Several::light_for))]
@@ -54,10 +67,8 @@ impl<'a> Received<'a> {
         requires { Within self.now.bytes.now self.now.place (message_told (Ok message.now)) }
         ensures { result ≡ light_for (book_of m.now) next_id total (call_of self.now.bytes.now (message_told (Ok message.now))) }
     {
-        let topic = &self.bytes[message.topic_from..message.topic_to];
-        let payload = &self.bytes[message.payload_from..message.payload_to];
-        let gate = m.gate_for(&message.msg, topic);
-        plan_light(gate, message.msg, payload, next_id, total)
+        let gate = m.gate_for(&message.msg, self.topic(message));
+        plan_light(gate, message.msg, self.payload(message), next_id, total)
     }
 }
 
