@@ -18,11 +18,35 @@ pub struct Reached {
     pub length: usize,
 }
 
+impl Reached {
+    /// Before the first packet.
+    pub const START: Reached = Reached {
+        place: 0,
+        done: 0,
+        length: 0,
+    };
+}
+
 /// How a run ended: whole, or by what refuses the packet at the place that it reached. What was done before it stays done.
 #[derive(Clone, Copy, Debug, PartialEq, Eq)]
 pub struct RunEnd {
     pub outcome: Result<(), QueueRefusal>,
     pub reached: Reached,
+}
+
+impl RunEnd {
+    ghost use Rattle.laws.specs.Refusals.{refusal};
+    ghost use Rattle.queue.specs.Refusal.{queue_number};
+
+    /// The number that a person is told: 0 for a run that is whole.
+    pub fn number(&self) -> u32
+        ensures { result ≡ refusal queue_number self.now.outcome }
+    {
+        match self.outcome {
+            Ok(()) => 0,
+            Err(refusal) => refusal.number(),
+        }
+    }
 }
 
 // The packet at the place that a run has reached: all of its messages are done, or none is.
@@ -74,11 +98,7 @@ pub fn run_packets(
     ensures end { ended result m.new ≡ queue_end m.old (wake_of bytes.now now_us ok (length out.old)) }
     ensures bytes { out.new ≡ queue_kept m.old (wake_of bytes.now now_us ok (length out.old)) out.old }
 {
-    let mut reached = Reached {
-        place: 0,
-        done: 0,
-        length: 0,
-    };
+    let mut reached = Reached::START;
     if !m.is_well_formed() {
         return RunEnd {
             outcome: Err(QueueRefusal::BadState),
