@@ -6,7 +6,7 @@
 //     window_count PLACE N · window_next PLACE N
 use crate::looks;
 use crate::parts::{number8, number16, number32};
-use cut::args::{flag, is, number, place, unhex};
+use cut::args::{flag, number, place, unhex};
 use monitor::state::MqttMonitor;
 use tables::buckets::RateBucket;
 use tables::rules::TopicRule;
@@ -14,158 +14,84 @@ use tables::trackers::EwmaTracker;
 use tables::windows::ClientStormEntry;
 
 // A rule's bytes as they are, or its flag, or its length.
-fn set_rule(rule: TopicRule, name: &[u8], q: &[u8]) -> TopicRule {
-    let mut next = rule;
-    if is(name, b"rule_live") {
-        next.active = flag(q, 2);
-        return next;
+fn set_rule(rule: &mut TopicRule, name: &[u8], q: &[u8]) {
+    match name {
+        b"rule_live" => rule.active = flag(q, 2),
+        b"rule_length" => rule.pattern_len = number8(q, 2),
+        _ => {
+            rule.pattern = [0; 64];
+            let n = unhex(q, 2, &mut rule.pattern).count;
+            rule.pattern_len = u8::try_from(n).unwrap_or(0);
+        }
     }
-    if is(name, b"rule_length") {
-        next.pattern_len = number8(q, 2);
-        return next;
-    }
-    let mut pattern = [0u8; 64];
-    let n = unhex(q, 2, &mut pattern).count;
-    next.pattern = pattern;
-    next.pattern_len = if n < 65 { n as u8 } else { 0 };
-    next
 }
 
-fn set_bucket(bucket: RateBucket, name: &[u8], q: &[u8]) -> RateBucket {
-    let mut next = bucket;
-    if is(name, b"bucket_live") {
-        next.active = flag(q, 2);
-        return next;
+fn set_bucket(bucket: &mut RateBucket, name: &[u8], q: &[u8]) {
+    match name {
+        b"bucket_live" => bucket.active = flag(q, 2),
+        b"tokens" => bucket.tokens = number16(q, 2),
+        b"remainder" => bucket.remainder = number32(q, 2),
+        _ => bucket.id.prefix_len = number8(q, 2),
     }
-    if is(name, b"tokens") {
-        next.tokens = number16(q, 2);
-        return next;
-    }
-    if is(name, b"remainder") {
-        next.remainder = number32(q, 2);
-        return next;
-    }
-    let mut id = bucket.id;
-    id.prefix_len = number8(q, 2);
-    next.id = id;
-    next
 }
 
-fn set_tracker(tracker: EwmaTracker, name: &[u8], q: &[u8]) -> EwmaTracker {
-    let mut next = tracker;
-    if is(name, b"tracker_live") {
-        next.active = flag(q, 2);
-        return next;
+fn set_tracker(tracker: &mut EwmaTracker, name: &[u8], q: &[u8]) {
+    match name {
+        b"tracker_live" => tracker.active = flag(q, 2),
+        b"mean" => tracker.mean_x256 = number32(q, 2),
+        b"samples" => tracker.sample_count = number8(q, 2),
+        _ => tracker.id.prefix_len = number8(q, 2),
     }
-    if is(name, b"mean") {
-        next.mean_x256 = number32(q, 2);
-        return next;
-    }
-    if is(name, b"samples") {
-        next.sample_count = number8(q, 2);
-        return next;
-    }
-    let mut id = tracker.id;
-    id.prefix_len = number8(q, 2);
-    next.id = id;
-    next
 }
 
 // Only of a client that is there: the Rust has no others.
-fn set_window(entry: ClientStormEntry, name: &[u8], q: &[u8]) -> ClientStormEntry {
+fn set_window(entry: &mut ClientStormEntry, name: &[u8], q: &[u8]) {
     if !entry.active {
-        return entry;
+        return;
     }
-    let mut next = entry;
-    if is(name, b"window_count") {
-        next.count = number8(q, 2);
-        return next;
+    match name {
+        b"window_count" => entry.count = number8(q, 2),
+        _ => entry.write_idx = number8(q, 2),
     }
-    next.write_idx = number8(q, 2);
-    next
 }
 
 // A field of a rule or a bucket.
-fn set_at_32(m: MqttMonitor, name: &[u8], q: &[u8]) -> MqttMonitor {
+fn set_at_32(m: &mut MqttMonitor, name: &[u8], q: &[u8]) {
     let at = place(q, 1);
     if 32 <= at {
-        return m;
+        return;
     }
-    let mut next = m;
-    if is(name, b"rule_live|rule_pattern|rule_length") {
-        let rule = set_rule(m.rules[at], name, q);
-        next.rules[at] = rule;
-        return next;
+    match name {
+        b"rule_live" | b"rule_pattern" | b"rule_length" => set_rule(&mut m.rules[at], name, q),
+        _ => set_bucket(&mut m.rate_buckets[at], name, q),
     }
-    let bucket = set_bucket(m.rate_buckets[at], name, q);
-    next.rate_buckets[at] = bucket;
-    next
 }
 
 // A field of a tracker or a window.
-fn set_at_16(m: MqttMonitor, name: &[u8], q: &[u8]) -> MqttMonitor {
+fn set_at_16(m: &mut MqttMonitor, name: &[u8], q: &[u8]) {
     let at = place(q, 1);
     if 16 <= at {
-        return m;
+        return;
     }
-    let mut next = m;
-    if is(name, b"window_count|window_next") {
-        let entry = set_window(m.connect_windows[at], name, q);
-        next.connect_windows[at] = entry;
-        return next;
+    match name {
+        b"window_count" | b"window_next" => set_window(&mut m.connect_windows[at], name, q),
+        _ => set_tracker(&mut m.ewma_trackers[at], name, q),
     }
-    let tracker = set_tracker(m.ewma_trackers[at], name, q);
-    next.ewma_trackers[at] = tracker;
-    next
-}
-
-// A counter or a setting.
-fn set_number(m: MqttMonitor, name: &[u8], q: &[u8]) -> MqttMonitor {
-    let mut next = m;
-    if is(name, b"next_id") {
-        next.next_alert_id = number(q, 1);
-        return next;
-    }
-    if is(name, b"total_inspected") {
-        next.total_inspected = number(q, 1);
-        return next;
-    }
-    if is(name, b"total_alerts") {
-        next.total_alerts = number(q, 1);
-        return next;
-    }
-    if is(name, b"threshold") {
-        next.connect_storm_threshold = number8(q, 1);
-        return next;
-    }
-    if is(name, b"window") {
-        next.connect_storm_window_us = number(q, 1);
-        return next;
-    }
-    next.rule_count = number16(q, 1);
-    next
 }
 
 // A field, or any other line.
-pub fn ask(m: MqttMonitor, name: &[u8], q: &[u8]) -> MqttMonitor {
-    if is(
-        name,
-        b"next_id|total_inspected|total_alerts|threshold|window|rule_count",
-    ) {
-        return set_number(m, name, q);
+pub fn ask(m: &mut MqttMonitor, name: &[u8], q: &[u8]) {
+    match name {
+        b"next_id" => m.next_alert_id = number(q, 1),
+        b"total_inspected" => m.total_inspected = number(q, 1),
+        b"total_alerts" => m.total_alerts = number(q, 1),
+        b"threshold" => m.connect_storm_threshold = number8(q, 1),
+        b"window" => m.connect_storm_window_us = number(q, 1),
+        b"rule_count" => m.rule_count = number16(q, 1),
+        b"rule_live" | b"rule_pattern" | b"rule_length" => set_at_32(m, name, q),
+        b"bucket_prefix" | b"bucket_live" | b"tokens" | b"remainder" => set_at_32(m, name, q),
+        b"tracker_prefix" | b"tracker_live" | b"mean" | b"samples" => set_at_16(m, name, q),
+        b"window_count" | b"window_next" => set_at_16(m, name, q),
+        _ => looks::ask(m, name),
     }
-    if is(
-        name,
-        b"rule_live|rule_pattern|rule_length|bucket_prefix|bucket_live|tokens|remainder",
-    ) {
-        return set_at_32(m, name, q);
-    }
-    if is(
-        name,
-        b"tracker_prefix|tracker_live|mean|samples|window_count|window_next",
-    ) {
-        return set_at_16(m, name, q);
-    }
-    looks::ask(m, name);
-    m
 }

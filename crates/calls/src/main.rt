@@ -20,35 +20,28 @@ mod state_calls;
 use crate::say::say;
 use cut::args::arg;
 use cut::{after, before};
-use monitor::calls::new;
 use monitor::state::MqttMonitor;
-use slices::bytes::starts_with;
 
 const STDIN_FILENO: i32 = 0;
 
-// A line, and the answer beside it: the state after it.
-fn answer(m: MqttMonitor, line: &[u8]) -> MqttMonitor {
+// A line, and the answer beside it.
+fn answer(m: &mut MqttMonitor, line: &[u8]) {
     say(line);
-    if line.len() == 0 {
-        return m;
-    }
-    if starts_with(line, b"#") {
-        return m;
+    if line.is_empty() || line[0] == b'#' {
+        return;
     }
     say(b" ->");
-    rule_calls::ask(m, arg(line, 0), line)
+    rule_calls::ask(m, arg(line, 0), line);
 }
 
 // Line by line, from a new monitor on.
 fn run(text: &[u8]) {
-    let mut m = new();
+    let mut m = MqttMonitor::new();
     let mut left = text;
-    while 0 < left.len() {
-        let next = answer(m, before(left, b'\n'));
-        m = next;
+    while !left.is_empty() {
+        answer(&mut m, before(left, b'\n'));
         say(b"\n");
-        let rest = after(left, b'\n');
-        left = rest;
+        left = after(left, b'\n');
     }
 }
 

@@ -5,108 +5,77 @@
 use crate::limits;
 use crate::parts::{number8, number16};
 use crate::policies::qos;
-use crate::say::{say_hex, say_number, say_outcome, say_place};
+use crate::say::{Line, say_number, say_refused};
 use cut::args::{arg, is, number, unhex};
 use cut::upto;
 use monitor::alerts::{MqttInspectResult, SecurityAlert, severity_number};
-use monitor::inspection::Inspected;
+use monitor::inspection::Inspection;
 use monitor::message::{MqttMessage, PAYLOAD_MAX, TOPIC_MAX, type_at};
-use monitor::state::{MqttMonitor, Outcome};
-
-// A length that is claimed as it is.
-fn claim8(n: usize) -> u8 {
-    if n < 256 { n as u8 } else { 0 }
-}
-
-fn claim16(n: usize) -> u16 {
-    if n < 65536 { n as u16 } else { 0 }
-}
-
-// The message of a line.
-fn message(q: &[u8], topic_len: u8, payload_inspectable_len: u16) -> MqttMessage {
-    MqttMessage {
-        packet_type: type_at(number(q, 3)),
-        topic_len: topic_len,
-        qos: qos(q, 4),
-        payload_len: number16(q, 6),
-        payload_inspectable_len: payload_inspectable_len,
-        timestamp_us: number(q, 1),
-        timestamp_ok: is(arg(q, 2), b"ok"),
-    }
-}
+use monitor::refusal::Refusal;
+use monitor::state::MqttMonitor;
 
 // Inspects the message of a line.
-fn inspect(m: MqttMonitor, q: &[u8], claimed: bool) -> Inspected {
+fn inspect(m: &mut MqttMonitor, q: &[u8], claimed: bool) -> Result<Inspection, Refusal> {
     let mut topic = [0u8; TOPIC_MAX];
     let topic_len = unhex(q, 5, &mut topic).count;
     let mut payload = [0u8; PAYLOAD_MAX];
     let payload_len = unhex(q, 7, &mut payload).count;
-    if claimed {
-        let msg = message(q, number8(q, 8), number16(q, 9));
-        return monitor::inspection::inspect(
-            m,
-            msg,
-            upto(&topic, topic_len),
-            upto(&payload, payload_len),
-        );
-    }
-    let msg = message(q, claim8(topic_len), claim16(payload_len));
-    monitor::inspection::inspect(m, msg, upto(&topic, topic_len), upto(&payload, payload_len))
+    let msg = MqttMessage {
+        packet_type: type_at(number(q, 3)),
+        topic_len: if claimed {
+            number8(q, 8)
+        } else {
+            u8::try_from(topic_len).unwrap_or(0)
+        },
+        qos: qos(q, 4),
+        payload_len: number16(q, 6),
+        payload_inspectable_len: if claimed {
+            number16(q, 9)
+        } else {
+            u16::try_from(payload_len).unwrap_or(0)
+        },
+        timestamp_us: number(q, 1),
+        timestamp_ok: is(arg(q, 2), b"ok"),
+    };
+    m.inspect(&msg, upto(&topic, topic_len), upto(&payload, payload_len))
 }
 
 // An alert.
-fn say_alert(at: usize, alert: SecurityAlert) {
-    let severity = alert.severity;
-    let hash = alert.payload_hash;
-    say_place(at);
-    say_number(b"id", alert.id);
-    say_number(b"kind", alert.source_id as u64);
-    say_number(b"severity", severity_number(severity));
-    say_number(b"at", alert.timestamp_us);
-    say_hex(b"hash", &hash);
-}
-
-// The alert at a place, if there is one.
-fn say_alert_at(inspected: MqttInspectResult, at: usize) {
-    let count = inspected.alert_count as usize;
-    if count <= at {
-        return;
-    }
-    if 4 <= at {
-        return;
-    }
-    let alerts = inspected.alerts;
-    say_alert(at, alerts[at]);
+fn say_alert(at: usize, alert: &SecurityAlert) {
+    let mut line = Line::new();
+    line.place(at);
+    line.number(b"id", alert.id);
+    line.number(b"kind", u64::from(alert.source_id));
+    line.number(b"severity", severity_number(alert.severity));
+    line.number(b"at", alert.timestamp_us);
+    line.hex(b"hash", &alert.payload_hash);
+    line.say();
 }
 
 // What an inspection found.
-fn say_result(inspected: MqttInspectResult) {
-    say_number(b"allowed", inspected.allowed as u64);
-    say_number(b"alerts", inspected.alert_count as u64);
-    say_alert_at(inspected, 0);
-    say_alert_at(inspected, 1);
-    say_alert_at(inspected, 2);
-    say_alert_at(inspected, 3);
+fn say_result(found: &MqttInspectResult) {
+    say_number(b"allowed", u64::from(found.allowed));
+    say_number(b"alerts", u64::from(found.alert_count));
+    for (at, alert) in found.alerts.iter().enumerate() {
+        if at < usize::from(found.alert_count) {
+            say_alert(at, alert);
+        }
+    }
 }
 
-// What an inspection found, or that it was refused; the state that it leaves.
-fn say_inspected(inspected: Inspected) -> MqttMonitor {
-    let outcome = inspected.outcome;
-    let result = inspected.result;
-    match outcome {
-        Outcome::Done(_) => say_result(result),
-        Outcome::Refused(_) => say_outcome(outcome),
+// What an inspection found, or that it was refused.
+fn say_inspected(inspected: Result<Inspection, Refusal>) {
+    match inspected {
+        Ok(inspection) => say_result(&inspection.result),
+        Err(refusal) => say_refused(refusal),
     }
-    inspected.monitor
 }
 
 // A message, or any other line.
-pub fn ask(m: MqttMonitor, name: &[u8], q: &[u8]) -> MqttMonitor {
-    if is(name, b"inspect") {
-        return say_inspected(inspect(m, q, false));
+pub fn ask(m: &mut MqttMonitor, name: &[u8], q: &[u8]) {
+    match name {
+        b"inspect" => say_inspected(inspect(m, q, false)),
+        b"inspect_claimed" => say_inspected(inspect(m, q, true)),
+        _ => limits::ask(m, name, q),
     }
-    if is(name, b"inspect_claimed") {
-        return say_inspected(inspect(m, q, true));
-    }
-    limits::ask(m, name, q)
 }

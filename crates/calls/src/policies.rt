@@ -1,9 +1,7 @@
 // A rule's action and QoS policy, and a message's QoS, as the trace writes them.
-use crate::say::put_number;
-use cut::args::{arg, is, number};
-use lines::value::Number;
-use lines::{put, value};
-use tables::rules::{MqttQoS, QosPolicy, TopicAction, policy_at, qos_at, qos_number};
+use crate::say::Line;
+use cut::args::{arg, number};
+use tables::rules::{MqttQoS, QosPolicy, TopicAction, qos_at, qos_number};
 
 // An argument that is a level, 0 to 2.
 pub fn qos(q: &[u8], k: usize) -> MqttQoS {
@@ -12,25 +10,30 @@ pub fn qos(q: &[u8], k: usize) -> MqttQoS {
 
 // An argument that is an action.
 pub fn action(q: &[u8], k: usize) -> TopicAction {
-    if is(arg(q, k), b"block") {
-        return TopicAction::Block;
+    match arg(q, k) {
+        b"block" => TopicAction::Block,
+        _ => TopicAction::Allow,
     }
-    TopicAction::Allow
 }
 
 // An argument that is a policy.
 pub fn policy(q: &[u8], k: usize) -> QosPolicy {
-    match value::word(b"any|min0|min1|min2|only0|only1|only2", arg(q, k)) {
-        Number::Value(n) => policy_at(n),
-        Number::Bad => QosPolicy::Any,
+    match arg(q, k) {
+        b"min0" => QosPolicy::MinQoS(MqttQoS::AtMostOnce),
+        b"min1" => QosPolicy::MinQoS(MqttQoS::AtLeastOnce),
+        b"min2" => QosPolicy::MinQoS(MqttQoS::ExactlyOnce),
+        b"only0" => QosPolicy::ExactQoS(MqttQoS::AtMostOnce),
+        b"only1" => QosPolicy::ExactQoS(MqttQoS::AtLeastOnce),
+        b"only2" => QosPolicy::ExactQoS(MqttQoS::ExactlyOnce),
+        _ => QosPolicy::Any,
     }
 }
 
 // A policy: its kind, and the level that it names.
-pub fn put_policy(out: &mut [u8], at: usize, policy: QosPolicy) -> usize {
+pub fn put_policy(line: &mut Line, policy: QosPolicy) {
     match policy {
-        QosPolicy::Any => put::put_bytes(out, at, b" any"),
-        QosPolicy::MinQoS(least) => put_number(out, at, b"min", qos_number(least) as u64),
-        QosPolicy::ExactQoS(exact) => put_number(out, at, b"only", qos_number(exact) as u64),
+        QosPolicy::Any => line.text(b" any"),
+        QosPolicy::MinQoS(least) => line.number(b"min", u64::from(qos_number(least))),
+        QosPolicy::ExactQoS(exact) => line.number(b"only", u64::from(qos_number(exact))),
     }
 }

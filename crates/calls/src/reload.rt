@@ -4,38 +4,37 @@
 use crate::parts::number32;
 use crate::runs;
 use crate::say::{say_lines, say_number};
-use cut::args::is;
 use cut::upto;
 use monitor::state::MqttMonitor;
 use settings::load::load_settings;
 use settings::write::write_settings;
 
 // The longest text has 5,547 bytes, and some more where settings are set by hand.
-fn reload(m: MqttMonitor, form: u32) -> MqttMonitor {
+fn reload(m: &mut MqttMonitor, form: u32) {
     let mut room = [0u8; 6144];
-    let written = write_settings(m, form, &mut room);
-    if written.number != 0 {
-        say_number(b"refused", written.number as u64);
-        return m;
+    let length = match write_settings(m, form, &mut room) {
+        Ok(length) => length,
+        Err(refusal) => return say_number(b"refused", u64::from(refusal.number())),
+    };
+    let text = upto(&room, length);
+    match load_settings(text) {
+        Ok(loaded) => {
+            say_number(b"done", loaded.line);
+            say_number(b"length", length as u64);
+            *m = loaded.monitor;
+        }
+        Err(refused) => {
+            say_number(b"refused", u64::from(refused.refusal.number()));
+            say_number(b"line", refused.line);
+        }
     }
-    let text = upto(&room, written.length);
-    let loaded = load_settings(text);
-    if loaded.number != 0 {
-        say_number(b"refused", loaded.number as u64);
-        say_number(b"line", loaded.line);
-        say_lines(text);
-        return m;
-    }
-    say_number(b"done", loaded.line);
-    say_number(b"length", written.length as u64);
     say_lines(text);
-    loaded.monitor
 }
 
 // It, or any other line.
-pub fn ask(m: MqttMonitor, name: &[u8], q: &[u8]) -> MqttMonitor {
-    if is(name, b"reload") {
-        return reload(m, number32(q, 1));
+pub fn ask(m: &mut MqttMonitor, name: &[u8], q: &[u8]) {
+    match name {
+        b"reload" => reload(m, number32(q, 1)),
+        _ => runs::ask(m, name, q),
     }
-    runs::ask(m, name, q)
 }

@@ -3,19 +3,18 @@
 use crate::covers;
 use crate::parts::number16;
 use crate::policies::{action, policy};
-use crate::say::{say_called, say_outcome};
-use cut::args::{is, place, unhex};
+use crate::say::{say_done, say_outcome};
+use cut::args::{place, unhex};
 use cut::upto;
 use monitor::message::TOPIC_MAX;
-use monitor::rule_calls;
-use monitor::state::{Called, MqttMonitor};
+use monitor::refusal::Refusal;
+use monitor::state::MqttMonitor;
 
 // Patterns of up to 128 bytes can be asked for, as in a trace.
-fn add_rule(m: MqttMonitor, q: &[u8]) -> Called {
+fn add_rule(m: &mut MqttMonitor, q: &[u8]) -> Result<u16, Refusal> {
     let mut pattern = [0u8; TOPIC_MAX];
     let n = unhex(q, 1, &mut pattern).count;
-    rule_calls::add_rule(
-        m,
+    m.add_rule(
         upto(&pattern, n),
         action(q, 2),
         policy(q, 3),
@@ -24,22 +23,13 @@ fn add_rule(m: MqttMonitor, q: &[u8]) -> Called {
 }
 
 // A call on the rules, or any other.
-pub fn ask(m: MqttMonitor, name: &[u8], q: &[u8]) -> MqttMonitor {
-    if is(name, b"add_rule") {
-        return say_called(add_rule(m, q));
+pub fn ask(m: &mut MqttMonitor, name: &[u8], q: &[u8]) {
+    match name {
+        b"add_rule" => say_outcome(add_rule(m, q)),
+        b"remove_rule" => say_done(m.remove_rule(place(q, 1))),
+        b"swap_rules" => say_done(m.swap_rules(place(q, 1), place(q, 2))),
+        b"clear_rules" => say_done(m.clear_rules()),
+        b"validate_rules" => say_outcome(m.validate_rules()),
+        _ => covers::ask(m, name, q),
     }
-    if is(name, b"remove_rule") {
-        return say_called(rule_calls::remove_rule(m, place(q, 1)));
-    }
-    if is(name, b"swap_rules") {
-        return say_called(rule_calls::swap_rules(m, place(q, 1), place(q, 2)));
-    }
-    if is(name, b"clear_rules") {
-        return say_called(rule_calls::clear_rules(m));
-    }
-    if is(name, b"validate_rules") {
-        say_outcome(rule_calls::validate_rules(m));
-        return m;
-    }
-    covers::ask(m, name, q)
 }

@@ -1,9 +1,7 @@
-// What an answer is written with. What belongs together is put into a buffer and written at once: a call of the system for each word would take most of the time.
-ghost use Rattle.std.specs.Prelude.{◌≡◌, length};
-
+// What an answer is written with.
 use cut::{after, before, upto};
 use lines::put;
-use monitor::state::{Called, MqttMonitor, Outcome};
+use monitor::refusal::Refusal;
 
 const STDOUT_FILENO: i32 = 1;
 
@@ -12,80 +10,92 @@ pub fn say(s: &[u8]) {
     io::write_all(STDOUT_FILENO, s);
 }
 
-// Room for the longest record: a window with 16 stamps.
-pub fn room() -> [u8; 512]
-    ensures { 512 ≡ length result }
-{
-    [0; 512]
+// What belongs together is gathered here and written at once: a call of the system for each word would take most of the time. There is room for the longest record, a window with 16 stamps.
+#[derive(Drop)]
+pub struct Line {
+    bytes: [u8; 512],
+    len: usize,
 }
 
-// A name with a number, from `at` on; the place after it.
-pub fn put_number(out: &mut [u8], at: usize, name: &[u8], n: u64) -> usize {
-    let key = put_key(out, at, name);
-    put::put_decimal(out, key, n)
-}
+impl Line {
+    pub fn new() -> Self {
+        Line {
+            bytes: [0; 512],
+            len: 0,
+        }
+    }
 
-// A name with bytes in hex, likewise.
-pub fn put_hex(out: &mut [u8], at: usize, name: &[u8], bytes: &[u8]) -> usize {
-    let key = put_key(out, at, name);
-    put::put_hex(out, key, bytes)
-}
+    pub fn say(&self) {
+        say(upto(&self.bytes, self.len));
+    }
 
-fn put_key(out: &mut [u8], at: usize, name: &[u8]) -> usize {
-    let blank = put::put_byte(out, at, b' ');
-    let key = put::put_bytes(out, blank, name);
-    put::put_byte(out, key, b'=')
+    // Bytes as they are.
+    pub fn text(&mut self, s: &[u8]) {
+        self.len = put::put_bytes(&mut self.bytes, self.len, s);
+    }
+
+    pub fn decimal(&mut self, n: u64) {
+        self.len = put::put_decimal(&mut self.bytes, self.len, n);
+    }
+
+    // A name with a number.
+    pub fn number(&mut self, name: &[u8], n: u64) {
+        self.key(name);
+        self.decimal(n);
+    }
+
+    // A name with bytes in hex.
+    pub fn hex(&mut self, name: &[u8], bytes: &[u8]) {
+        self.key(name);
+        self.len = put::put_hex(&mut self.bytes, self.len, bytes);
+    }
+
+    // The place of a record, on a line of its own.
+    pub fn place(&mut self, at: usize) {
+        self.text(b"\n   ");
+        self.decimal(at as u64);
+    }
+
+    fn key(&mut self, name: &[u8]) {
+        self.text(b" ");
+        self.text(name);
+        self.text(b"=");
+    }
 }
 
 // A name with a number.
 pub fn say_number(name: &[u8], n: u64) {
-    let mut space = room();
-    let out: &mut [u8] = &mut space;
-    let end = put_number(out, 0, name, n);
-    say(upto(out, end));
-}
-
-// A name with bytes in hex.
-pub fn say_hex(name: &[u8], bytes: &[u8]) {
-    let mut space = room();
-    let out: &mut [u8] = &mut space;
-    let end = put_hex(out, 0, name, bytes);
-    say(upto(out, end));
-}
-
-// The place of a record, on a line of its own.
-pub fn say_place(at: usize) {
-    let mut space = room();
-    let out: &mut [u8] = &mut space;
-    let start = put::put_bytes(out, 0, b"\n   ");
-    let end = put::put_decimal(out, start, at as u64);
-    say(upto(out, end));
+    let mut line = Line::new();
+    line.number(name, n);
+    line.say();
 }
 
 // The lines of a text, each behind some blanks.
 pub fn say_lines(text: &[u8]) {
     let mut left = text;
-    while 0 < left.len() {
+    while !left.is_empty() {
         say(b"\n   ");
         say(before(left, b'\n'));
-        let rest = after(left, b'\n');
-        left = rest;
+        left = after(left, b'\n');
     }
 }
 
-// How a call ended.
-pub fn say_outcome(outcome: Outcome) {
+// Why a call was refused.
+pub fn say_refused(refusal: Refusal) {
+    say_number(b"refused", u64::from(refusal.number()));
+}
+
+// How a call ended that may hand back a number of its own.
+pub fn say_outcome(outcome: Result<u16, Refusal>) {
     match outcome {
-        Outcome::Done(n) => say_number(b"done", n as u64),
-        Outcome::Refused(n) => say_number(b"refused", n as u64),
+        Ok(n) => say_number(b"done", u64::from(n)),
+        Err(refusal) => say_refused(refusal),
     }
 }
 
-// How a call ended; the state that it leaves.
-pub fn say_called(called: Called) -> MqttMonitor {
-    let outcome = called.outcome;
-    say_outcome(outcome);
-    called.monitor
+// How a call ended that hands back none.
+pub fn say_done(outcome: Result<(), Refusal>) {
+    say_outcome(outcome.and(Ok(0)));
 }
 
 // A line that is not understood.

@@ -9,12 +9,8 @@
 // Any other line is a heading. The answers are compared with the file `stdout`; what is proved here is that the program is safe and ends.
 #![tactic(auto)]
 
-ghost use Rattle.std.specs.Prelude.{◌≤◌, length};
-ghost use Rattle.corners.specs.Parts.{PartIn};
-
-use cut::upto;
+use cut::{after, before, upto};
 use lines::value;
-use slices::bytes::find_byte;
 use topics::hashes::fnv1a_hash;
 use topics::matching::{match_number, standard_matches, topic_matches};
 use topics::patterns::validate_mqtt_wildcard;
@@ -25,14 +21,6 @@ const STDIN_FILENO: i32 = 0;
 
 const STDOUT_FILENO: i32 = 1;
 
-// A quoted part of a line, and the place after its closing quote.
-#[derive(Clone, Copy)]
-struct Part {
-    from: usize,
-    to: usize,
-    next: usize,
-}
-
 fn main() {
     let mut buffer = io::large_buffer();
     let n = io::read_full(STDIN_FILENO, &mut buffer);
@@ -41,126 +29,99 @@ fn main() {
 
 // The whole input, line after line.
 fn answer_all(text: &[u8]) {
-    let mut at = 0;
-    while at < text.len() {
-        let end = find_byte(text, at, b'\n');
-        answer(&text[at..end]);
-        if end == text.len() {
-            return;
-        }
-        at = end + 1;
+    let mut left = text;
+    while !left.is_empty() {
+        answer(before(left, b'\n'));
+        left = after(left, b'\n');
     }
 }
 
 // The answer to a line, by its first letter, and the line itself.
 fn answer(line: &[u8]) {
-    if 0 < line.len() {
-        let word = line[0];
-        if word == b'h' {
-            answer_hash(line);
-        }
-        if word == b'b' {
-            answer_bytes(line, false);
-        }
-        if word == b'u' {
-            answer_bytes(line, true);
-        }
-        if word == b's' {
-            answer_shown(line);
-        }
-        if word == b'v' {
-            answer_valid(line);
-        }
-        if word == b'm' {
-            answer_match(line);
-        }
+    match line {
+        [b'h', ..] => say_hash(quoted(line)),
+        [b'b', ..] => answer_bytes(line),
+        [b'u', ..] => answer_utf8(line),
+        [b's', ..] => answer_shown(line),
+        [b'v', ..] => say_test(validate_mqtt_wildcard(quoted(line))),
+        [b'm', ..] => compare(quoted(line), quoted(behind(line))),
+        _ => {}
     }
     say(line);
     say(b"\n");
 }
 
-// The hash of a text.
-fn answer_hash(line: &[u8]) {
-    let text = quoted(line, 0);
-    let from = text.from;
-    let to = text.to;
-    say_hash(&line[from..to]);
+// What stands between the first two quotes of a line.
+fn quoted(line: &[u8]) -> &[u8] {
+    before(after(line, b'"'), b'"')
 }
 
-// The hash of bytes in hex, or whether they are UTF-8, where they are such and at most 512.
-fn answer_bytes(line: &[u8], test: bool) {
-    let digits = quoted(line, 0);
-    let from = digits.from;
-    let to = digits.to;
-    let mut bytes = [0u8; 512];
-    if value::hex(&line[from..to], &mut bytes) != 0 {
-        return say(b"refused   ");
-    }
-    if test {
-        return say_test(is_utf8(upto(&bytes, (to - from) / 2)));
-    }
-    say_hash(upto(&bytes, (to - from) / 2));
+// What stands behind them.
+fn behind(line: &[u8]) -> &[u8] {
+    after(after(line, b'"'), b'"')
 }
 
-// Whether bytes in hex can be shown as they are, and how they are shown, where they are such and at most 512.
+// The bytes that a line quotes in hex, where they are such and fit.
+fn quoted_bytes<'a>(line: &[u8], room: &'a mut [u8]) -> Option<&'a [u8]> {
+    let digits = quoted(line);
+    if value::hex(digits, room) != 0 {
+        return None;
+    }
+    Some(upto(room, digits.len() / 2))
+}
+
+// The hash of bytes in hex.
+fn answer_bytes(line: &[u8]) {
+    let mut room = [0u8; 512];
+    match quoted_bytes(line, &mut room) {
+        Some(bytes) => say_hash(bytes),
+        None => say(b"refused   "),
+    }
+}
+
+// Whether they are UTF-8.
+fn answer_utf8(line: &[u8]) {
+    let mut room = [0u8; 512];
+    match quoted_bytes(line, &mut room) {
+        Some(bytes) => say_test(is_utf8(bytes)),
+        None => say(b"refused   "),
+    }
+}
+
+// Whether they can be shown as they are, and how they are shown.
 fn answer_shown(line: &[u8]) {
-    let digits = quoted(line, 0);
-    let from = digits.from;
-    let to = digits.to;
-    let mut bytes = [0u8; 512];
-    if value::hex(&line[from..to], &mut bytes) != 0 {
+    let mut room = [0u8; 512];
+    let Some(bytes) = quoted_bytes(line, &mut room) else {
         return say(b"refused   ");
-    }
-    let whole = is_readable(upto(&bytes, (to - from) / 2));
+    };
+    let whole = is_readable(bytes);
     say_test(whole);
-    say_shown(upto(&bytes, (to - from) / 2), whole);
+    say_shown(bytes, whole);
     say(b"  ");
 }
 
 // A text as it is shown.
 fn say_shown(bytes: &[u8], whole: bool) {
-    let mut i = 0;
-    while i < bytes.len() {
-        let b = shown_byte(whole, bytes[i]);
-        say(&[b]);
-        i += 1;
+    for byte in bytes {
+        say(&[shown_byte(whole, *byte)]);
     }
 }
 
 // The eight digits of a hash.
 fn say_hash(bytes: &[u8]) {
-    io::print_hex(STDOUT_FILENO, fnv1a_hash(bytes) as u64, 8);
+    io::print_hex(STDOUT_FILENO, u64::from(fnv1a_hash(bytes)), 8);
     say(b"  ");
-}
-
-// Whether a filter is valid.
-fn answer_valid(line: &[u8]) {
-    let filter = quoted(line, 0);
-    let from = filter.from;
-    let to = filter.to;
-    say_test(validate_mqtt_wildcard(&line[from..to]));
 }
 
 // What a test says.
 fn say_test(answer: bool) {
-    say_answer(number_of(answer));
+    say_answer(u32::from(answer));
     say(b"  ");
-}
-
-// Whether a filter takes a name.
-fn answer_match(line: &[u8]) {
-    let filter = quoted(line, 0);
-    let filter_from = filter.from;
-    let filter_to = filter.to;
-    let name = quoted(line, filter.next);
-    let name_from = name.from;
-    let name_to = name.to;
-    compare(&line[filter_from..filter_to], &line[name_from..name_to]);
 }
 
 // What the two matchers answer, and whether they differ.
 fn compare(filter: &[u8], name: &[u8]) {
-    let port = number_of(topic_matches(name, filter));
+    let port = u32::from(topic_matches(name, filter));
     let standard = match_number(standard_matches(name, filter));
     say(b"port ");
     say_answer(port);
@@ -173,52 +134,16 @@ fn compare(filter: &[u8], name: &[u8]) {
     }
 }
 
-// 0 for no, 1 for yes, as `match_number` has them.
-fn number_of(answer: bool) -> u32 {
-    if answer { 1 } else { 0 }
-}
-
-// Such a number as a word, three letters wide.
+// Such a number, as `match_number` has it, as a word, three letters wide.
 fn say_answer(number: u32) {
-    if number == 0 {
-        return say(b"no ");
+    match number {
+        0 => say(b"no "),
+        1 => say(b"yes"),
+        _ => say(b"out"),
     }
-    if number == 1 {
-        return say(b"yes");
-    }
-    say(b"out")
 }
 
 // Bytes to standard output.
 fn say(text: &[u8]) {
     io::write_all(STDOUT_FILENO, text);
-}
-
-// What stands between the first two quotes from `from` on.
-fn quoted(line: &[u8], from: usize) -> Part
-    requires { from ≤ length line.now }
-    ensures { PartIn result (length line.now) }
-{
-    let open = find_byte(line, from, b'"');
-    if open == line.len() {
-        return Part {
-            from: open,
-            to: open,
-            next: open,
-        };
-    }
-    let start = open + 1;
-    let close = find_byte(line, start, b'"');
-    if close == line.len() {
-        return Part {
-            from: start,
-            to: close,
-            next: close,
-        };
-    }
-    Part {
-        from: start,
-        to: close,
-        next: close + 1,
-    }
 }

@@ -13,24 +13,23 @@ use cut::args::arg;
 use cut::swap::swap;
 use cut::{after, before, upto};
 use lines::put;
-use slices::bytes::starts_with;
 
 const STDIN_FILENO: i32 = 0;
 
 // A question: of a writer or of a reader.
 fn ask(q: &[u8]) {
     let name = arg(q, 0);
-    if starts_with(name, b"put_") {
+    if name.starts_with(b"put_") {
         writers::ask(name, q);
-        return;
+    } else {
+        readers::ask(name, q);
     }
-    readers::ask(name, q);
 }
 
 // A line, and the answer beside it.
 fn answer(line: &[u8]) {
     say(line);
-    if starts_with(line, b"#") {
+    if line.starts_with(b"#") {
         return;
     }
     say(b" ->");
@@ -44,11 +43,10 @@ fn answer(line: &[u8]) {
 // Line by line.
 fn run(text: &[u8]) {
     let mut left = text;
-    while 0 < left.len() {
+    while !left.is_empty() {
         answer(before(left, b'\n'));
         say(b"\n");
-        let rest = after(left, b'\n');
-        left = rest;
+        left = after(left, b'\n');
     }
 }
 

@@ -8,9 +8,5 @@ pub fn text(q: &[u8]) -> &[u8] {
 
 // The first byte of the text, or 0.
 pub fn text_byte(q: &[u8]) -> u8 {
-    let t = text(q);
-    if t.len() == 0 {
-        return 0;
-    }
-    t[0]
+    text(q).first().copied().unwrap_or(0)
 }

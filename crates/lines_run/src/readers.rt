@@ -5,7 +5,7 @@
 // ROOM is the size of the buffer for the bytes, at most 8; it is written out after the read, and a `.` is a byte that stayed.
 use crate::parts::text;
 use crate::say::{say, say_buffer, say_field, say_flag, say_number, say_unknown};
-use cut::args::{arg, is, number, place, size};
+use cut::args::{arg, number, place, size};
 use lines::held::Span;
 use lines::value::Number;
 use lines::{held, read, value};
@@ -26,83 +26,54 @@ fn say_spelled(n: Number) {
     }
 }
 
-// Hex, as a line or as a value: the answer, and what `room` then holds.
-fn read_hex(name: &[u8], q: &[u8], room: &mut [u8]) {
-    if is(name, b"hex") {
-        say_number(b"number", value::hex(text(q), room) as u64);
-        say_buffer(room);
-        return;
-    }
+// Hex as a value: the answer, and what `room` then holds.
+fn say_hex(q: &[u8], room: &mut [u8]) {
+    say_number(b"number", u64::from(value::hex(text(q), room)));
+    say_buffer(room);
+}
+
+// Hex as a line, likewise.
+fn say_hex_field(q: &[u8], room: &mut [u8]) {
     say_field(read::hex_field(text(q), place(q, 2), arg(q, 1), room));
     say_buffer(room);
 }
 
-// A question about hex, whose argument `k` is the room.
-fn ask_hex(name: &[u8], q: &[u8], k: usize) {
-    let mut room = [b'.'; 8];
-    let n = size(q, k, &room);
-    read_hex(name, q, &mut room[..n]);
-}
-
 // A question about places in a text.
 fn ask_place(name: &[u8], q: &[u8]) {
-    if is(name, b"find_byte") {
-        say_number(b"at", find_byte(text(q), place(q, 1), b'=') as u64);
-        return;
+    match name {
+        b"find_byte" => say_number(b"at", find_byte(text(q), place(q, 1), b'=') as u64),
+        b"span_at" => say_span(held::span_at(text(q), place(q, 1))),
+        b"span_from" => say_span(held::span_from(text(q), place(q, 1))),
+        b"text_end" => say_number(b"number", u64::from(read::text_end(text(q), place(q, 1)))),
+        _ => say_unknown(),
     }
-    if is(name, b"span_at") {
-        say_span(held::span_at(text(q), place(q, 1)));
-        return;
-    }
-    if is(name, b"span_from") {
-        say_span(held::span_from(text(q), place(q, 1)));
-        return;
-    }
-    if is(name, b"text_end") {
-        say_number(b"number", read::text_end(text(q), place(q, 1)) as u64);
-        return;
-    }
-    say_unknown();
 }
 
 // A question about a value.
 fn ask_value(name: &[u8], q: &[u8]) {
-    if is(name, b"starts_with") {
-        say_flag(b"yes", starts_with(text(q), arg(q, 1)));
-        return;
+    let mut room = [b'.'; 8];
+    let n = size(q, 1, &room);
+    match name {
+        b"starts_with" => say_flag(b"yes", starts_with(text(q), arg(q, 1))),
+        b"decimal" => say_spelled(value::decimal(text(q), number(q, 1), number(q, 2))),
+        b"word" => say_spelled(value::word(arg(q, 1), text(q))),
+        b"hex" => say_hex(q, &mut room[..n]),
+        _ => ask_place(name, q),
     }
-    if is(name, b"decimal") {
-        say_spelled(value::decimal(text(q), number(q, 1), number(q, 2)));
-        return;
-    }
-    if is(name, b"word") {
-        say_spelled(value::word(arg(q, 1), text(q)));
-        return;
-    }
-    if is(name, b"hex") {
-        ask_hex(name, q, 1);
-        return;
-    }
-    ask_place(name, q);
 }
 
 // A question about a line, or any other.
 pub fn ask(name: &[u8], q: &[u8]) {
-    if is(name, b"line_at") {
-        say_field(read::line_at(text(q), place(q, 2), arg(q, 1)));
-        return;
+    let t = text(q);
+    let at = place(q, 2);
+    let key = arg(q, 1);
+    let mut room = [b'.'; 8];
+    let n = size(q, 3, &room);
+    match name {
+        b"line_at" => say_field(read::line_at(t, at, key)),
+        b"number_field" => say_field(read::number_field(t, at, key, number(q, 3), number(q, 4))),
+        b"word_field" => say_field(read::word_field(t, at, key, arg(q, 3))),
+        b"hex_field" => say_hex_field(q, &mut room[..n]),
+        _ => ask_value(name, q),
     }
-    if is(name, b"number_field") {
-        say_field(read::number_field(text(q), place(q, 2), arg(q, 1), number(q, 3), number(q, 4)));
-        return;
-    }
-    if is(name, b"word_field") {
-        say_field(read::word_field(text(q), place(q, 2), arg(q, 1), arg(q, 3)));
-        return;
-    }
-    if is(name, b"hex_field") {
-        ask_hex(name, q, 3);
-        return;
-    }
-    ask_value(name, q);
 }

@@ -19,12 +19,12 @@ pub fn say_number(name: &[u8], n: u64) {
 
 // A name with a flag.
 pub fn say_flag(name: &[u8], on: bool) {
-    say_number(name, on as u64);
+    say_number(name, u64::from(on));
 }
 
 // What a line gave.
 pub fn say_field(f: Field) {
-    say_number(b"number", f.number as u64);
+    say_number(b"number", u64::from(f.number));
     say_number(b"value", f.value);
     say_number(b"from", f.from as u64);
     say_number(b"to", f.to as u64);

@@ -14,8 +14,7 @@ use Rattle.monitor.specs.Runs.{Call, shipped, after_by, replies_by}
 use Rattle.monitor.specs.State.{well_formed}
 use Rattle.monitor.specs.declared.state.MqttMonitor.{MqttMonitor}
 use Rattle.monitor.proofs.Replies.{run_formed, after_two, replies_two}
-use Rattle.packets.specs.Packet.{packet_at}
-use Rattle.packets.specs.declared.packet.Packet.{Packet}
+use Rattle.packets.specs.Packet.{ToldPacket, packet_at}
 use Rattle.packets.proofs.messages.MovedLaws.{packet_before, calls_before, packet_behind, calls_behind}
 use Rattle.queue.specs.Joined.{at_once, left_by, second, CallsJoin}
 use Rattle.queue.specs.Queue.{Wake, calls_in, records_of, Ran, ends_at, ran_of, sent_of}
@@ -61,8 +60,8 @@ module _ (m : MqttMonitor) (w : Wake) (more : List ℕ) (room whole : ℕ) (f : 
       let n = packet_good m w place sent z in
       let p = packet_before w.bytes more place w.time w.ok n in
       let c = calls_before w.bytes more place w.time w.ok n in
-      goes_on m one roomy place sent h (omega (arith, l, long)) (ap (λ (x : Packet). x.number) p ∙ n)
-      ∙ ap₂ (λ (k : ℕ) (cs : List Call). left m one (place + k) (sent ++ cs)) (ap (λ (x : Packet). x.length) p) c)
+      goes_on m one roomy place sent h (omega (arith, l, long)) (ap (λ (x : ToldPacket). x.number) p ∙ n)
+      ∙ ap₂ (λ (k : ℕ) (cs : List Call). left m one (place + k) (sent ++ cs)) (ap (λ (x : ToldPacket). x.length) p) c)
       start
 
   rest_long : length two.bytes ≡ length one.bytes - first.place
@@ -77,8 +76,8 @@ module _ (m : MqttMonitor) (w : Wake) (more : List ℕ) (room whole : ℕ) (f : 
       let p = packet_behind one.bytes first.place place in
       let c = calls_behind one.bytes first.place place w.time w.ok in
       let k : first.place + place + (packet_at one.bytes (first.place + place)).length ≡ first.place + (place + (packet_at two.bytes place).length) =
-      omega (arith, ap (λ (x : Packet). x.length) p) in
-      goes_on m one roomy (first.place + place) (first.sent ++ sent) h (omega (arith, l, rest_long)) (sym (ap (λ (x : Packet). x.number) p) ∙ n)
+      omega (arith, ap (λ (x : ToldPacket). x.length) p) in
+      goes_on m one roomy (first.place + place) (first.sent ++ sent) h (omega (arith, l, rest_long)) (sym (ap (λ (x : ToldPacket). x.number) p) ∙ n)
       ∙ ap₂ (left m one) k
       (append_assoc first.sent sent (calls_in one (first.place + place)) ∙ ap (λ (cs : List Call). first.sent ++ (sent ++ cs)) (sym c)))
       (as_first ∙ ap₂ (left m one) (omega arith) (sym (append-nil first.sent)))

@@ -1,3 +1,4 @@
 pub mod Enough
 pub mod Joined
+pub mod RefusalLaws
 pub mod Singly

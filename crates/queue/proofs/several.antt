@@ -1,2 +1,2 @@
 pub mod LightLaws
-mod LoopLaws
+pub mod LoopLaws

@@ -3,13 +3,15 @@
 -- Assumes nothing.
 use Rattle.std.specs.Prelude.{Bool, cond, List, [], ◌++◌, ℕ, zero, suc, ◌+◌, eqb, leb, length}
 use Rattle.std.proofs.lemmas.List.Edits.{sets}
+use Rattle.laws.specs.Refusals.{refusal}
 use Rattle.monitor.specs.Runs.{Call, shipped, after_by, replies_by}
 use Rattle.monitor.specs.State.{well_formed}
 use Rattle.monitor.specs.declared.state.MqttMonitor.{MqttMonitor}
 use Rattle.trace.specs.AsRun.{records_text}
 use Rattle.packets.specs.Packet.{first_of, packet_at}
 use Rattle.packets.specs.Taken.{calls_at}
-use Rattle.queue.specs.declared.run.QueueEnd.{QueueEnd}
+use Rattle.queue.specs.Refusal.{queue_number}
+use Rattle.queue.specs.declared.run.RunEnd.{RunEnd}
 
 -- what a call brings beside the state: the packets' bytes, the time and the verdict of all messages, and how long its buffer is
 pub record Wake : Type 0 where
@@ -25,9 +27,13 @@ wake_of bytes time ok room = record { bytes = bytes; time = time; ok = ok; room 
 abbrev pub calls_in : Wake → ℕ → List Call
 calls_in w place = calls_at w.bytes place w.time w.ok
 
--- the records of messages that are inspected singly, one after the other from a state on; they count from 1
+-- the records of messages that are inspected singly, one after the other from a state on, the first being the n-th
+abbrev pub records_from : ℕ → MqttMonitor → List Call → List ℕ
+records_from n m sent = records_text n (replies_by shipped m sent)
+
+-- those of a call count from 1
 abbrev pub records_of : MqttMonitor → List Call → List ℕ
-records_of m sent = records_text 1 (replies_by shipped m sent)
+records_of m sent = records_from 1 m sent
 
 -- what refuses the packet at a place, after the messages before it: request C-11's number, then 28 where the records, its own among them, do not fit
 unfoldable pub queue_refusal : MqttMonitor → Wake → ℕ → List Call → ℕ
@@ -61,7 +67,27 @@ ran_of m w = cond (well_formed m) (ran_from (length w.bytes + 1) m w 0 []) (ends
 abbrev pub sent_of : MqttMonitor → Wake → List Call
 sent_of m w = (ran_of m w).sent
 
--- what is handed back of a run that ended so: the state is the one that its messages leave
+-- how a call ends: the number that ended the run, 0 where it is whole; the place of the packet at which it ended, or the end of the bytes; how many messages were done, and how many bytes their
+-- records are; and the state after them
+pub record QueueEnd : Type 0 where
+  pub number : ℕ
+  pub place : ℕ
+  pub done : ℕ
+  pub length : ℕ
+  pub monitor : MqttMonitor
+
+-- what the code hands back, with the state that it leaves, so told
+abbrev pub ended : RunEnd → MqttMonitor → QueueEnd
+ended r m =
+    record {
+      number = refusal queue_number r.outcome;
+      place = r.reached.place;
+      done = r.reached.done;
+      length = r.reached.length;
+      monitor = m;
+    }
+
+-- a run that ended so: the state is the one that its messages leave
 abbrev pub end_of : MqttMonitor → Ran → QueueEnd
 end_of m r =
     record {

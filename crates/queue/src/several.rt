@@ -1,172 +1,125 @@
 // A packet of several messages: a SUBSCRIBE or an UNSUBSCRIBE, each filter of which is one. They ask no table (monitor/specs/Light.antt): what they answer follows from the rules and the counters. So
-// all of their records are measured before any of them is inspected, and then written, with no copy of the state.
-ghost use Rattle.std.specs.Prelude.{◌≡◌, ◌+◌, ◌^◌, ◌<◌, leb, length};
+// all of their records are measured before any of them is inspected, with no copy of the state.
+ghost use Rattle.std.specs.Prelude.{◌≡◌, ◌+◌, ◌^◌, ◌≤◌, ◌<◌, true, cond, leb, length, IsOk, IfOk, IfErr};
+ghost use Rattle.laws.specs.Refusals.{refusal};
 ghost use Rattle.lines.specs.Wrote.{Wrote};
-ghost use Rattle.packets.specs.Packet.{packet_at};
-ghost use Rattle.packets.specs.Taken.{call_of, calls_at, Within};
-ghost use Rattle.queue.specs.Several.{light_for, light_text, light_after};
+ghost use Rattle.monitor.specs.Runs.{shipped, after_by};
+ghost use Rattle.monitor.specs.State.{well_formed};
+ghost use Rattle.packets.specs.Taken.{calls_at};
+ghost use Rattle.queue.specs.Queue.{records_from};
+ghost use Rattle.queue.specs.Refusal.{queue_number};
+ghost use Rattle.queue.specs.Several.{book_of, light_text};
+ghost use Rattle.queue.specs.Turn.{IsRead, Written, Unwritten};
 
-use monitor::alerts::{MqttInspectResult, count_on};
-use monitor::gate::gate_for;
-use monitor::plan::{Plan, plan_light};
-use packets::messages::{PacketMessage, message_at};
-use packets::packet::Packet;
-use tables::rules::{RULES, TopicAction, TopicRule};
-use topics::matching::Matching;
+use crate::received::{Received, result_of};
+use crate::refusal::QueueRefusal;
+use monitor::state::MqttMonitor;
+use packets::refusal::PacketRefusal;
 use trace::record::{put_record, record_len};
 
-// What of a monitor answers a message that asks no table: the rules, the default, and the matcher.
-#[derive(Clone, Copy)]
-pub struct Rulebook {
-    pub rules: [TopicRule; RULES],
-    pub count: u16,
-    pub default_action: TopicAction,
-    pub matching: Matching,
-}
-
-// What such messages move: the alert id to come, and the two counts.
-#[derive(Clone, Copy)]
-pub struct Counters {
-    pub next_id: u64,
-    pub inspected: u64,
-    pub total: u64,
-}
-
-// The place after the records of a packet's messages, and the counters.
-#[derive(Drop)]
-pub struct SeveralEnd {
-    pub place: usize,
-    pub counters: Counters,
-}
-
-// The plan of a message of some bytes.
-fn plan_of(
-    bytes: &[u8],
-    place: usize,
-    x: PacketMessage,
-    book: Rulebook,
-    next_id: u64,
-    total: u64,
-) -> Plan
-    requires { Within bytes.now place x }
-    ensures { result ≡ light_for book next_id total (call_of bytes.now x) }
-{
-    let msg = x.msg;
-    let a = x.topic_from;
-    let b = x.topic_to;
-    let c = x.payload_from;
-    let d = x.payload_to;
-    let rules = book.rules;
-    let default_action = book.default_action;
-    let matching = book.matching;
-    let gate = gate_for(
-        rules,
-        book.count,
-        default_action,
-        matching,
-        msg,
-        &bytes[a..b],
-    );
-    plan_light(gate, msg, &bytes[c..d], next_id, total)
-}
-
-// Whether the records of a packet's messages, the first of which is the n-th, fit into so much room.
-pub(crate) fn fits(
-    bytes: &[u8],
-    place: usize,
-    packet: Packet,
-    now_us: u64,
-    ok: bool,
-    book: Rulebook,
+// The records of a packet's messages, the first of which is the n-th, fit into so much room, or `NoRoom`.
+fn check_room(
+    m: &MqttMonitor,
+    received: &Received,
     n: u64,
-    counters: Counters,
     room: usize,
-) -> bool
-    requires at_place { packet ≡ packet_at bytes.now place }
-    requires taken { packet.number ≡ 0 }
-    requires messages_bound { n + packet.messages < 2 ^ 64 }
-    ensures { result ≡ leb (length (light_text book n counters.next_id counters.total (calls_at bytes.now place now_us ok))) room }
+) -> Result<(), QueueRefusal>
+    requires read { IsRead received.now.bytes.now received.now.place received.now.packet }
+    requires messages_bound { n + received.now.packet.messages < 2 ^ 64 }
+    ensures {
+        refusal queue_number result
+        ≡ cond (leb (length (light_text (book_of m.now) n m.now.next_alert_id m.now.total_alerts (calls_at received.now.bytes.now received.now.place received.now.now_us received.now.ok))) room) 0 28
+    }
 {
-    let mut unmeasured = packet.messages;
-    let mut step = packet.first;
-    let mut k = n;
-    let mut next_id = counters.next_id;
-    let mut total = counters.total;
+    let mut step = received.packet.first;
+    let mut next_id = m.next_alert_id;
+    let mut total = m.total_alerts;
     let mut left = room;
-    while 0 < unmeasured {
-        let x = message_at(bytes, place, step, now_us, ok);
-        let plan = plan_of(bytes, place, x, book, next_id, total);
-        let raised = plan.raised;
-        let alerts = raised.alerts;
-        let result = MqttInspectResult {
-            allowed: plan.allowed,
-            alert_count: raised.count,
-            alerts,
-        };
-        let need = record_len(k, result);
+    for k in n..n + received.packet.messages as u64 {
+        let message = received.message(step)?;
+        let plan = received.plan_light(m, &message, next_id, total);
+        let need = record_len(k, result_of(&plan));
         if left < need {
-            return false;
+            return Err(QueueRefusal::NoRoom);
         }
         left -= need;
-        next_id = raised.next_id;
-        total = raised.total;
-        step = x.next;
-        k += 1;
-        unmeasured -= 1;
+        next_id = plan.raised.next_id;
+        total = plan.raised.total;
+        step = message.next;
     }
-    true
+    Ok(())
 }
 
-// Those records, written from a place on.
-pub(crate) fn put_several(
+// A packet's messages inspected one after the other, the first of them being the n-th, and their records written from a place on. None of them is refused.
+fn put_messages(
+    m: &mut MqttMonitor,
+    received: &Received,
+    n: u64,
     out: &mut [u8],
     at: usize,
-    bytes: &[u8],
-    place: usize,
-    packet: Packet,
-    now_us: u64,
-    ok: bool,
-    book: Rulebook,
-    n: u64,
-    counters: Counters,
-) -> SeveralEnd
-    requires at_place { packet ≡ packet_at bytes.now place }
-    requires taken { packet.number ≡ 0 }
-    requires messages_bound { n + packet.messages < 2 ^ 64 }
-    ensures wrote { Wrote out.old out.new at (light_text book n counters.next_id counters.total (calls_at bytes.now place now_us ok)) result.place }
-    ensures counters { result.counters ≡ light_after book counters (calls_at bytes.now place now_us ok) }
+) -> Result<usize, PacketRefusal>
+    requires read { IsRead received.now.bytes.now received.now.place received.now.packet }
+    requires formed { well_formed m.old ≡ true }
+    requires messages_bound { n + received.now.packet.messages < 2 ^ 64 }
+    ensures ok { IsOk result }
+    ensures wrote { IfOk result (Wrote out.old out.new at (records_from n m.old (calls_at received.now.bytes.now received.now.place received.now.now_us received.now.ok))) }
+    ensures state { m.new ≡ after_by shipped m.old (calls_at received.now.bytes.now received.now.place received.now.now_us received.now.ok) }
 {
-    let mut unwritten = packet.messages;
-    let mut step = packet.first;
-    let mut k = n;
-    let mut p = at;
-    let mut next_id = counters.next_id;
-    let mut inspected = counters.inspected;
-    let mut total = counters.total;
-    while 0 < unwritten {
-        let x = message_at(bytes, place, step, now_us, ok);
-        let plan = plan_of(bytes, place, x, book, next_id, total);
-        let raised = plan.raised;
-        let alerts = raised.alerts;
-        let result = MqttInspectResult {
-            allowed: plan.allowed,
-            alert_count: raised.count,
-            alerts,
-        };
-        p = put_record(out, p, k, result);
-        inspected = count_on(inspected);
-        next_id = raised.next_id;
-        total = raised.total;
-        step = x.next;
-        k += 1;
-        unwritten -= 1;
+    let mut step = received.packet.first;
+    let mut end = at;
+    for k in n..n + received.packet.messages as u64 {
+        let message = received.message(step)?;
+        let plan = received.plan(m, &message);
+        end = put_record(out, end, k, result_of(&plan));
+        m.apply(&plan);
+        step = message.next;
     }
-    SeveralEnd {
-        place: p,
-        counters: Counters {
-            next_id,
-            inspected,
-            total,
-        },
+    Ok(end)
+}
+
+// The messages of a packet that has several: all of their records are written, and the place behind them handed back, or none is.
+pub(crate) fn put_several(
+    m: &mut MqttMonitor,
+    received: &Received,
+    n: u64,
+    out: &mut [u8],
+    at: usize,
+) -> Result<usize, QueueRefusal>
+    requires read { IsRead received.now.bytes.now received.now.place received.now.packet }
+    requires several { received.now.packet.messages ≡ 1 → ⊥ }
+    requires formed { well_formed m.old ≡ true }
+    requires messages_bound { n + received.now.packet.messages < 2 ^ 64 }
+    requires place { at ≤ length out.old }
+    ensures written { IfOk result (Written m.old m.new out.old out.new at n (calls_at received.now.bytes.now received.now.place received.now.now_us received.now.ok)) }
+    ensures unwritten { IfErr result (Unwritten m.old m.new out.old out.new at n (calls_at received.now.bytes.now received.now.place received.now.now_us received.now.ok)) }
+{
+    check_room(m, received, n, out.len() - at)?;
+    Ok(put_messages(m, received, n, out, at)?)
+}
+
+// The message of a packet that has one: its record is written, and the place behind it handed back, or it is not inspected.
+pub(crate) fn put_one(
+    m: &mut MqttMonitor,
+    received: &Received,
+    n: u64,
+    out: &mut [u8],
+    at: usize,
+) -> Result<usize, QueueRefusal>
+    requires read { IsRead received.now.bytes.now received.now.place received.now.packet }
+    requires one { received.now.packet.messages ≡ 1 }
+    requires formed { well_formed m.old ≡ true }
+    requires place { at ≤ length out.old }
+    ensures written { IfOk result (Written m.old m.new out.old out.new at n (calls_at received.now.bytes.now received.now.place received.now.now_us received.now.ok)) }
+    ensures unwritten { IfErr result (Unwritten m.old m.new out.old out.new at n (calls_at received.now.bytes.now received.now.place received.now.now_us received.now.ok)) }
+{
+    let message = received.message(received.packet.first)?;
+    let plan = received.plan(m, &message);
+    let result_here = result_of(&plan);
+    let room = out.len() - at;
+    let need = record_len(n, result_here);
+    if room < need {
+        return Err(QueueRefusal::NoRoom);
     }
+    m.apply(&plan);
+    Ok(put_record(out, at, n, result_here))
 }

@@ -4,8 +4,7 @@ use Rattle.std.specs.Prelude.{cond, List, ℕ, eqb}
 use Rattle.topics.specs.declared.matching.Matching.TheVariants.{Port}
 use Rattle.trace.specs.Seen.{end_state}
 use Rattle.trace.specs.Trace.{messages_of}
-use Rattle.queue.specs.Queue.{Wake, queue_end, queue_kept}
-use Rattle.queue.specs.declared.run.QueueEnd.{QueueEnd}
+use Rattle.queue.specs.Queue.{Wake, QueueEnd, queue_end, queue_kept}
 use Rattle.wake.specs.declared.task.QueueRun.{QueueRun}
 
 -- what is handed back of how a run ended: of the state the two counts

@@ -3,14 +3,15 @@ ghost use Rattle.std.specs.Prelude.{◌≡◌, length};
 ghost use Rattle.queue.specs.Queue.{wake_of};
 ghost use Rattle.wake.specs.Task.{task_end, task_kept};
 
-use queue::run::run_packets;
+use monitor::state::MqttMonitor;
+use queue::run::{Reached, run_packets};
 use topics::matching::Matching;
 use trace::seen::see_all;
 
 // How a run ended: 0 where it is whole, else the number that ended it, with the place of the packet at which it ended; how many messages were done, and how many bytes their records are; and the
 // monitor's two counts afterwards, the trace's messages among them.
 #[repr(C)]
-#[derive(Clone, Copy)]
+#[derive(Clone, Copy, Debug, PartialEq, Eq)]
 pub struct QueueRun {
     pub number: u32,
     pub place: usize,
@@ -20,32 +21,31 @@ pub struct QueueRun {
     pub total: u64,
 }
 
+// How a run ended, as C reads it, with the counts of the state that it left.
+fn told(number: u32, reached: Reached, m: &MqttMonitor) -> QueueRun
+    ensures { result ≡ record { number = number; place = reached.place; done = reached.done; length = reached.length; inspected = m.now.total_inspected; total = m.now.total_alerts } }
+{
+    QueueRun {
+        number,
+        place: reached.place,
+        done: reached.done,
+        length: reached.length,
+        inspected: m.total_inspected,
+        total: m.total_alerts,
+    }
+}
+
+#[tactic(auto, unfolding(crate::specs::Task::task_end, crate::specs::Task::task_kept))]
 // The packets of a run with one time and one verdict, after the messages of a trace, whose rules are matched as the Rust does. The records go to the beginning of the caller's buffer. A trace that
 // is refused gives its number, with place 0 and no message done.
 pub fn hub_queue(trace: &[u8], at: u64, clock_ok: bool, packets: &[u8], out: &mut [u8]) -> QueueRun
     ensures answer { result ≡ task_end trace.now (wake_of packets.now at clock_ok (length out.old)) }
     ensures buffer { out.new ≡ task_kept trace.now (wake_of packets.now at clock_ok (length out.old)) out.old }
 {
-    let seen = see_all(trace, Matching::Port);
-    let m = seen.monitor;
+    let mut seen = see_all(trace, Matching::Port);
     if seen.number != 0 {
-        return QueueRun {
-            number: seen.number,
-            place: 0,
-            done: 0,
-            length: 0,
-            inspected: m.total_inspected,
-            total: m.total_alerts,
-        };
+        return told(seen.number, Reached::START, &seen.monitor);
     }
-    let end = run_packets(m, packets, at, clock_ok, out);
-    let after = end.monitor;
-    QueueRun {
-        number: end.number,
-        place: end.place,
-        done: end.done,
-        length: end.length,
-        inspected: after.total_inspected,
-        total: after.total_alerts,
-    }
+    let end = run_packets(&mut seen.monitor, packets, at, clock_ok, out);
+    told(end.number(), end.reached, &seen.monitor)
 }

@@ -23,7 +23,7 @@ use Rattle.packets.proofs.Steps.{steps, all_good, limited}
 use Rattle.packets.proofs.Taken.{taken}
 
 -- whoever lies within its packet lends exactly what its message uses
-within_exact : (s : List ℕ) (place : ℕ) (m : ToldMessage) → Within s place m → Exact (call_of s m)
+pub within_exact : (s : List ℕ) (place : ℕ) (m : ToldMessage) → Within s place m → Exact (call_of s m)
 within_exact s place m w = (omega (arith, w.topic_long.0, w.topic_long.1), omega (arith, w.payload_long.0, w.payload_long.1))
 
 module _ (s : List ℕ) (place now_us : ℕ) (ok : Bool) where

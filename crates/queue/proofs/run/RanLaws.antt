@@ -17,8 +17,7 @@ use Rattle.monitor.specs.declared.state.MqttMonitor.{MqttMonitor}
 use Rattle.monitor.proofs.Replies.{replies_two}
 use Rattle.trace.specs.AsRun.{records_text}
 use Rattle.trace.specs.Record.{record_text}
-use Rattle.packets.specs.Packet.{first_of, packet_at}
-use Rattle.packets.specs.declared.packet.Packet.{Packet}
+use Rattle.packets.specs.Packet.{ToldPacket, first_of, packet_at}
 use Rattle.packets.proofs.packet.AcceptedLaws.{packet_is}
 use Rattle.packets.proofs.packet.PacketLaws.{number_known}
 use Rattle.queue.specs.Queue.{Wake, calls_in, records_of, queue_refusal, Ran, ends_at, ran_from, ran_of}
@@ -140,7 +139,7 @@ module _ (m : MqttMonitor) (w : Wake) where
       ∙ enough_turns (length w.bytes) (length w.bytes + 1) (place + (packet_at w.bytes place).length) (sent ++ calls_in w place) (omega (arith, f.0, h)) (omega (arith, f.0, h))
 
   -- what refuses a packet, by what was read of it and by its records
-  module _ (place : ℕ) (sent : List Call) {p : Packet} (e : p ≡ packet_at w.bytes place) where
+  module _ (place : ℕ) (sent : List Call) {p : ToldPacket} (e : p ≡ packet_at w.bytes place) where
     pub refused_packet : (p.number ≡ 0 → ⊥) → queue_refusal m w place sent ≡ p.number
     unfolding queue_refusal
     refused_packet z = rw e (first_refuses (packet_at w.bytes place).number (room_number place sent) (rw e at z))

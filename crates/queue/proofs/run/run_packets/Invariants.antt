@@ -5,8 +5,8 @@ use lib.ListN.{length}
 use Rattle.queue.proofs.run.RunLaws.{Running}
 use Rattle.queue.proofs.run.run_packets.Given as goal
 
-abbrev pub invariant-loop-at : goal.invariant-loop-at
-invariant-loop-at l = Running l.initial.m l.bytes l.now_us l.ok l.initial.out l.out l.m l.p l.done l.at
+abbrev pub invariant-loop-reached : goal.invariant-loop-reached
+invariant-loop-reached l = Running l.initial.m l.bytes l.now_us l.ok l.initial.out l.out l.m l.reached
 
-abbrev pub decreases-loop-at : goal.decreases-loop-at
-decreases-loop-at l = length l.bytes - l.at
+abbrev pub decreases-loop-reached : goal.decreases-loop-reached
+decreases-loop-reached l = length l.bytes - l.reached.place
