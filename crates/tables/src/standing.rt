@@ -12,7 +12,7 @@ use crate::{buckets, identity};
 const IDLE_OVER: u64 = IDLE_MAX + 1;
 
 // From a time on, or not within 64 bits.
-#[derive(Drop)]
+#[derive(Clone, Copy, Debug, PartialEq, Eq)]
 pub enum Opening {
     Never,
     From(u64),

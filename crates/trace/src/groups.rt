@@ -1,5 +1,5 @@
 // The groups of lines that a trace is made of beside its rules: the opening's two, a message's seven (document 01, "The trace"). A rule's four are read by `rules_text`.
-ghost use Rattle.std.specs.Prelude.{◌≡◌};
+ghost use Rattle.std.specs.Prelude.{◌≡◌, ◌≤◌};
 ghost use Rattle.trace.specs.Groups.{opening_stopped, opening_of, OpeningIn, message_stopped, message_at, topic_kept, payload_kept, MessageIn};
 
 use lines::read::{Field, hex_field, number_field, word_field};
@@ -27,6 +27,26 @@ pub struct MessageLines {
     pub topic_to: usize,
     pub payload_from: usize,
     pub payload_to: usize,
+}
+
+impl MessageLines {
+    ghost use Rattle.std.specs.Prelude.{take};
+
+    // The message's topic, which its lines left at the beginning of a buffer.
+    pub(crate) fn topic<'a>(&self, buffer: &'a [u8; TOPIC_MAX]) -> &'a [u8]
+        requires { self.now.msg.topic_len ≤ 128 }
+        ensures { result.now ≡ take self.now.msg.topic_len buffer.now }
+    {
+        &buffer[..usize::from(self.msg.topic_len)]
+    }
+
+    // Its payload, in the same way.
+    pub(crate) fn payload<'a>(&self, buffer: &'a [u8; PAYLOAD_MAX]) -> &'a [u8]
+        requires { self.now.msg.payload_inspectable_len ≤ 256 }
+        ensures { result.now ≡ take self.now.msg.payload_inspectable_len buffer.now }
+    {
+        &buffer[..usize::from(self.msg.payload_inspectable_len)]
+    }
 }
 
 // An opening that stopped at a line.

@@ -7,12 +7,12 @@ ghost use Rattle.trace.specs.Seen.{sent_from, seen_in, named_by, is_named};
 
 use crate::groups::read_message;
 use crate::run::{buffer_128, buffer_256, load};
-use monitor::calls::fresh;
 use monitor::inspection::inspect;
-use monitor::message::{MqttPacketType, TOPIC_MAX, type_number};
+use monitor::message::{MqttPacketType, TOPIC_MAX};
 use monitor::state::MqttMonitor;
 use slices::bytes::same_bytes;
 use tables::identity::{Id, id_of, is_of};
+use tables::rules::TopicAction;
 use topics::matching::Matching;
 
 // How a trace ended, the place of its first message, the time of its last, and the state after all of them. Where the opening or a rule was refused there is no message, and the place is the
@@ -30,23 +30,21 @@ pub struct Seen {
 pub fn see_all(text: &[u8], matching: Matching) -> Seen
     ensures { result ≡ seen_in matching text.now }
 {
-    let start = load(text);
-    let default_action = start.default_action;
-    let rules = start.rules;
-    let mut m = fresh(matching, default_action);
-    m.rules = rules;
-    m.rule_count = start.rule_count;
-    let mut line = start.line;
-    if start.number != 0 {
-        return Seen {
-            number: start.number,
-            line,
-            first: text.len(),
-            last: 0,
-            monitor: m,
-        };
-    }
+    let mut m = MqttMonitor::fresh(matching, TopicAction::Allow);
+    let start = match load(text, matching, &mut m) {
+        Ok(start) => start,
+        Err(stop) => {
+            return Seen {
+                number: stop.number,
+                line: stop.line,
+                first: text.len(),
+                last: 0,
+                monitor: m,
+            };
+        }
+    };
     let first = start.next;
+    let mut line = start.line;
     let mut topic = buffer_128();
     let mut payload = buffer_256();
     let mut at = first;
@@ -54,7 +52,7 @@ pub fn see_all(text: &[u8], matching: Matching) -> Seen
     while at < text.len() {
         let group = read_message(text, at, &mut topic, &mut payload);
         if group.number != 0 {
-            let ended = line + 1 + group.line as u64;
+            let ended = line + 1 + u64::from(group.line);
             return Seen {
                 number: group.number,
                 line: ended,
@@ -63,12 +61,9 @@ pub fn see_all(text: &[u8], matching: Matching) -> Seen
                 monitor: m,
             };
         }
-        let msg = group.msg;
-        let topic_len = msg.topic_len as usize;
-        let payload_len = msg.payload_inspectable_len as usize;
-        let inspected = inspect(m, msg, &topic[..topic_len], &payload[..payload_len]);
+        let inspected = inspect(m, group.msg, group.topic(&topic), group.payload(&payload));
         m = inspected.monitor;
-        last = msg.timestamp_us;
+        last = group.msg.timestamp_us;
         at = group.next;
         line += 7;
     }
@@ -95,26 +90,28 @@ pub(crate) fn find_named(text: &[u8], at: usize, held: Id, name: &mut [u8; TOPIC
         if group.number != 0 {
             return 0;
         }
-        let msg = group.msg;
-        let n = msg.topic_len as usize;
-        let id = id_of(&topic[..n]);
+        let id = id_of(group.topic(&topic));
         if is_of(id, held) {
             *name = topic;
-            return n;
+            return usize::from(group.msg.topic_len);
         }
         p = group.next;
     }
     0
 }
 
+// It is a Publish.
+pub(crate) fn is_publish(packet_type: MqttPacketType) -> bool
+    ensures { result ≡ eqb (type_number packet_type) 3 }
+{
+    matches!(packet_type, MqttPacketType::Publish)
+}
+
 // A Publish of a topic.
 fn names(packet_type: MqttPacketType, name: &[u8], topic: &[u8]) -> bool
     ensures { result ≡ (eqb (type_number packet_type) 3 && same topic.now name.now) }
 {
-    if type_number(packet_type) != 3 {
-        return false;
-    }
-    same_bytes(topic, name)
+    is_publish(packet_type) && same_bytes(topic, name)
 }
 
 // Whether a Publish names a topic from a place on.
@@ -129,10 +126,7 @@ pub(crate) fn is_named(text: &[u8], at: usize, topic: &[u8]) -> bool
         if group.number != 0 {
             return false;
         }
-        let msg = group.msg;
-        let packet_type = msg.packet_type;
-        let n = msg.topic_len as usize;
-        if names(packet_type, &name[..n], topic) {
+        if names(group.msg.packet_type, group.topic(&name), topic) {
             return true;
         }
         p = group.next;

@@ -5,7 +5,8 @@ use mathlib.Core.Bool.{Bool, true, false}
 use mathlib.Core.List.{List, [], ◌∷◌, ◌++◌}
 use mathlib.Core.Path.{◌≡◌, refl, ap, ◌∙◌}
 use native.Mathlib.Omega.{arith}
-use borrow.Author.Tests.{eq-eqb, ne_eqb, le-leb, lt-leb, lt-ltb, le-ltb}
+use lib.Dec.{eqb}
+use borrow.Author.Tests.{le-leb, lt-leb, lt-ltb, le-ltb}
 use lib.ListN.{length, take, drop, get_or, set, length-append}
 use lib.Seq.{sets, sets-eq, length-sets, take-append_seam}
 use Rattle.slices.specs.Bytes.{bytes}
@@ -109,20 +110,20 @@ unfolding places_text oldest_first
 places_none calls bs {left} h = let z : left ≡ zero = omega arith in ap (λ (k : ℕ). places_text calls (oldest_first k bs)) z
 
 -- a message's lines, by the tests: it is a Publish, the limiter counts it, no later one names its topic
-module _ (m : MqttMonitor) (last : ℕ) (type : MqttPacketType) (topic : List ℕ) (later : List Call) {n : ℕ} (number : n ≡ type_number type) where
-  pub quiet_type : (n ≡ 3 → ⊥) → message_text m last type topic later ≡ []
-  quiet_type z = rw (← number, ne_eqb n 3 z)
+module _ (m : MqttMonitor) (last : ℕ) (type : MqttPacketType) (topic : List ℕ) (later : List Call) {publish : Bool} (is : publish ≡ eqb (type_number type) 3) where
+  pub quiet_type : publish ≡ false → message_text m last type topic later ≡ []
+  quiet_type z = rw (← is, z)
 
-  module _ (e : n ≡ 3) {o : Outlook} (stands : o ≡ standing_in m topic) where
+  module _ (e : publish ≡ true) {o : Outlook} (stands : o ≡ standing_in m topic) where
     pub quiet_rate : o.rate ≡ 0 → message_text m last type topic later ≡ []
-    quiet_rate z = rw (← number, eq-eqb n 3 e, ← stands, z)
+    quiet_rate z = rw (← is, e, ← stands, z)
 
     module _ (r : 0 < o.rate) {named : Bool} (told : named ≡ is_named later topic) where
       pub quiet_named : named ≡ true → message_text m last type topic later ≡ []
-      quiet_named y = rw (← number, eq-eqb n 3 e, ← stands, lt-ltb 0 o.rate r, ← told, y)
+      quiet_named y = rw (← is, e, ← stands, lt-ltb 0 o.rate r, ← told, y)
 
       pub told_topic : named ≡ false → {l : Left} → l ≡ left_in m topic last → message_text m last type topic later ≡ topic_text topic o l last
-      told_topic y q = rw (← number, eq-eqb n 3 e, ← stands, lt-ltb 0 o.rate r, ← told, y, ← q)
+      told_topic y q = rw (← is, e, ← stands, lt-ltb 0 o.rate r, ← told, y, ← q)
 
 -- nothing goes out
 pub nothing_out : (write : Bool) (d : List ℕ) (at : ℕ) {t : List ℕ} → t ≡ [] → (at ≡ at + length t) × (d ≡ put_if write d at t)

@@ -9,26 +9,26 @@ use Rattle.trace.proofs.standing.pass_message.Goals as goal
 
 -- the topic's lines are the message's
 told : (c : After-tokens_left-left) → let given = c.args in
-    message_text given.m given.last given.packet_type given.topic.now (sent_from given.text.now given.next)
+    message_text given.m.now given.last given.packet_type given.topic.now (sent_from given.text.now given.next)
     ≡ topic_text given.topic.now c.standing-outlook.result c.tokens_left-left.result given.last
 told c =
     let given = c.args in
-    told_topic given.m given.last given.packet_type given.topic.now (sent_from given.text.now given.next) c.type_number.ensures c.if-type_number-ne3.false
+    told_topic given.m.now given.last given.packet_type given.topic.now (sent_from given.text.now given.next) c.is_publish.ensures c.if-not-is_publish.false
     c.standing-outlook.ensures (omega (arith, c.if-outlook-eq0.false)) c.is_named.ensures c.if-is_named.false c.tokens_left-left.ensures
 
-pub returns-then-type_number-ne3 : goal.returns-then-type_number-ne3
-returns-then-type_number-ne3 c = let given = c.args in let q = nothing_out given.write given.out.now given.at
-    (quiet_type given.m given.last given.packet_type given.topic.now (sent_from given.text.now given.next) c.type_number.ensures
-    c.if-type_number-ne3.true) in record { next = (q.0, omega arith); bytes = q.1 }
+pub returns-then-not-is_publish : goal.returns-then-not-is_publish
+returns-then-not-is_publish c = let given = c.args in let q = nothing_out given.write given.out.now given.at
+    (quiet_type given.m.now given.last given.packet_type given.topic.now (sent_from given.text.now given.next) c.is_publish.ensures
+    c.if-not-is_publish.true) in record { next = (q.0, omega arith); bytes = q.1 }
 
 pub returns-then-outlook-eq0 : goal.returns-then-outlook-eq0
 returns-then-outlook-eq0 c = let given = c.args in let q = nothing_out given.write given.out.now given.at
-    (quiet_rate given.m given.last given.packet_type given.topic.now (sent_from given.text.now given.next) c.type_number.ensures c.if-type_number-ne3.false
+    (quiet_rate given.m.now given.last given.packet_type given.topic.now (sent_from given.text.now given.next) c.is_publish.ensures c.if-not-is_publish.false
     c.standing-outlook.ensures c.if-outlook-eq0.true) in record { next = (q.0, omega arith); bytes = q.1 }
 
 pub returns-then-is_named : goal.returns-then-is_named
 returns-then-is_named c = let given = c.args in let q = nothing_out given.write given.out.now given.at
-    (quiet_named given.m given.last given.packet_type given.topic.now (sent_from given.text.now given.next) c.type_number.ensures c.if-type_number-ne3.false
+    (quiet_named given.m.now given.last given.packet_type given.topic.now (sent_from given.text.now given.next) c.is_publish.ensures c.if-not-is_publish.false
     c.standing-outlook.ensures (omega (arith, c.if-outlook-eq0.false)) c.is_named.ensures c.if-is_named.true) in record { next = (q.0, omega arith); bytes = q.1 }
 
 pub pass_topic-requires : goal.pass_topic-requires

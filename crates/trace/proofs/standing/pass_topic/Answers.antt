@@ -11,7 +11,7 @@ use Rattle.trace.proofs.standing.pass_topic.Goals.{After-put_topic-n}
 use Rattle.trace.proofs.standing.pass_topic.Goals as goal
 
 abbrev text : (c : After-put_topic-n) → List ℕ
-text c = let given = c.args in topic_text given.topic.now given.outlook given.left given.last
+text c = let given = c.args in topic_text given.topic.now given.outlook.now given.left.now given.last
 
 short : (c : After-put_topic-n) → length (text c) ≤ 490
 short c = c.put_topic-n.ensures.short c.requires.short
