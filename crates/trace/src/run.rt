@@ -58,8 +58,8 @@ fn load_rule(text: &[u8], start: Place, m: &mut MqttMonitor) -> Result<Place, St
         });
     }
     let n = (rule.pattern_to - rule.pattern_from) / 2;
-    let plan = plan_rule(
-        m.rules,
+    let planned = plan_rule(
+        &m.rules,
         m.rule_count,
         &pattern[..n],
         rule.action,
@@ -67,19 +67,21 @@ fn load_rule(text: &[u8], start: Place, m: &mut MqttMonitor) -> Result<Place, St
         rule.rate,
     );
     let line = start.line + 4;
-    if plan.number != 0 {
-        return Err(Stop {
-            number: plan.number,
+    match planned {
+        Ok(placement) => {
+            m.rules[placement.at] = placement.rule;
+            m.rule_count = placement.count;
+            Ok(Place {
+                next: rule.next,
+                line,
+            })
+        }
+        Err(refusal) => Err(Stop {
+            number: refusal.number(),
             line,
             next: rule.next,
-        });
+        }),
     }
-    m.rules[plan.at] = plan.rule;
-    m.rule_count = plan.count;
-    Ok(Place {
-        next: rule.next,
-        line,
-    })
 }
 
 /// The opening and its rules: a fresh monitor that has them, and where its messages begin. 27 is tested first; where a rule is refused the rules before it stay.
@@ -192,13 +194,7 @@ fn pass(text: &[u8], matching: Matching, out: &mut [u8], write: bool) -> TraceEn
         }
         let plan = m.plan_for(&group.msg, group.topic(&topic), group.payload(&payload));
         m.apply(&plan);
-        let alerts = plan.raised.alerts;
-        let inspected = MqttInspectResult {
-            allowed: plan.allowed,
-            alert_count: plan.raised.count,
-            alerts,
-        };
-        p = pass_record(out, p, n, &inspected, write);
+        p = pass_record(out, p, n, &plan.result(), write);
         at = group.next;
         line += 7;
         n += 1;

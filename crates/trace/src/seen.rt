@@ -1,5 +1,5 @@
 // What the messages of a trace came to: the state that they leave, the time of the last of them, and who named what (docs/STANDING.md). Nothing is written. It is the support desk's call and not the
-// part's: each message is inspected by the plain call, which hands the state over and back, and a search reads the text again.
+// part's: each message is inspected by the plain call, and a search reads the text again.
 ghost use Rattle.std.specs.Prelude.{◌&&◌, ◌≡◌, ◌≤◌, eqb, length, take};
 ghost use Rattle.slices.specs.Bytes.{same};
 ghost use Rattle.monitor.specs.Message.{type_number};
@@ -7,17 +7,16 @@ ghost use Rattle.trace.specs.Seen.{sent_from, seen_in, named_by, is_named};
 
 use crate::groups::read_message;
 use crate::run::{buffer_128, buffer_256, load};
-use monitor::inspection::inspect;
 use monitor::message::{MqttPacketType, TOPIC_MAX};
 use monitor::state::MqttMonitor;
 use slices::bytes::same_bytes;
-use tables::identity::{Id, id_of, is_of};
+use tables::identity::Id;
 use tables::rules::TopicAction;
 use topics::matching::Matching;
 
 // How a trace ended, the place of its first message, the time of its last, and the state after all of them. Where the opening or a rule was refused there is no message, and the place is the
 // text's end.
-#[derive(Clone, Copy)]
+#[derive(Clone, Debug, PartialEq, Eq, Drop)]
 pub struct Seen {
     pub number: u32,
     pub line: u64,
@@ -61,8 +60,7 @@ pub fn see_all(text: &[u8], matching: Matching) -> Seen
                 monitor: m,
             };
         }
-        let inspected = inspect(m, group.msg, group.topic(&topic), group.payload(&payload));
-        m = inspected.monitor;
+        let _inspected = m.inspect(&group.msg, group.topic(&topic), group.payload(&payload));
         last = group.msg.timestamp_us;
         at = group.next;
         line += 7;
@@ -77,8 +75,8 @@ pub fn see_all(text: &[u8], matching: Matching) -> Seen
 }
 
 // The topic of the first message from a place on that has an identity, at the beginning of a lent buffer, and its length; 0 where none has.
-pub(crate) fn find_named(text: &[u8], at: usize, held: Id, name: &mut [u8; TOPIC_MAX]) -> usize
-    ensures named { take result name.new ≡ named_by (sent_from text.now at) held }
+pub(crate) fn find_named(text: &[u8], at: usize, held: &Id, name: &mut [u8; TOPIC_MAX]) -> usize
+    ensures named { take result name.new ≡ named_by (sent_from text.now at) held.now }
     ensures short { result ≤ 128 }
     ensures long { length name.old ≡ 128 → length name.new ≡ 128 }
 {
@@ -90,8 +88,7 @@ pub(crate) fn find_named(text: &[u8], at: usize, held: Id, name: &mut [u8; TOPIC
         if group.number != 0 {
             return 0;
         }
-        let id = id_of(group.topic(&topic));
-        if is_of(id, held) {
+        if held.is_of(&Id::of(group.topic(&topic))) {
             *name = topic;
             return usize::from(group.msg.topic_len);
         }

@@ -1,9 +1,10 @@
 // Where the limit stands after a trace, as text (docs/STANDING.md). A pass writes the lines, or only counts them, so that a buffer that is too short is refused before anything is written. Each group
 // of lines is made in a small buffer of its own, and goes out from there.
-ghost use Rattle.std.specs.Prelude.{true, ◌++◌, ◌≡◌, ◌+◌, ◌-◌, ◌*◌, ◌<◌, ◌≤◌, length};
+ghost use Rattle.std.specs.Prelude.{true, Ok, ◌++◌, ◌≡◌, ◌+◌, ◌-◌, ◌*◌, ◌<◌, ◌≤◌, length};
 ghost use Rattle.slices.specs.Bytes.{bytes};
 ghost use Rattle.lines.specs.Line.{number_line};
 ghost use Rattle.tables.specs.Standing.{oldest_first};
+ghost use Rattle.monitor.specs.Standing.{told_outlook, told_left};
 ghost use Rattle.trace.specs.Seen.{sent_from};
 ghost use Rattle.trace.specs.Standing.{name_text, opening_text, places_text, topic_text, message_text, topics_text, standing_lines, standing_text, standing_end, standing_kept};
 ghost use Rattle.trace.specs.Trace.{enough, put_if};
@@ -14,9 +15,9 @@ use crate::seen::{Seen, find_named, is_named, is_publish, see_all};
 use crate::standing_lines::{put_name, put_opening, put_topic};
 use lines::put::{put_bytes, put_number_line};
 use monitor::message::MqttPacketType;
-use monitor::standing::{Left, Outlook, standing, tokens_left};
+use monitor::standing::{Left, Outlook};
 use monitor::state::MqttMonitor;
-use tables::buckets::{BUCKETS, RateBucket, empty_bucket};
+use tables::buckets::{BUCKETS, RateBucket};
 use tables::standing::{Opening, oldest_live, opening_new, taken};
 use topics::matching::Matching;
 
@@ -93,9 +94,9 @@ fn pass_topic(
 ) -> usize
     requires small { at ≤ 1000000 }
     requires short { length topic.now ≤ 128 }
-    requires room { write ≡ true → at + length (topic_text topic.now outlook.now left.now last) ≤ length out.old }
-    ensures next { (result ≡ at + length (topic_text topic.now outlook.now left.now last)) × (result ≤ at + 490) }
-    ensures bytes { out.new ≡ put_if write out.old at (topic_text topic.now outlook.now left.now last) }
+    requires room { write ≡ true → at + length (topic_text topic.now (told_outlook (Ok outlook.now)) (told_left (Ok left.now)) last) ≤ length out.old }
+    ensures next { (result ≡ at + length (topic_text topic.now (told_outlook (Ok outlook.now)) (told_left (Ok left.now)) last)) × (result ≤ at + 490) }
+    ensures bytes { out.new ≡ put_if write out.old at (topic_text topic.now (told_outlook (Ok outlook.now)) (told_left (Ok left.now)) last) }
 {
     let mut lines = group_buffer();
     let n = put_topic(&mut lines, 0, topic, outlook, left, last);
@@ -120,13 +121,12 @@ fn pass_places(
     let mut name = buffer_128();
     let mut p = at;
     for _turn in 0..BUCKETS {
-        let oldest = oldest_live(rest);
-        if BUCKETS <= oldest {
+        let Some(oldest) = oldest_live(&rest) else {
             return p;
-        }
-        let n = find_named(text, first, rest[oldest].id, &mut name);
+        };
+        let n = find_named(text, first, &rest[oldest].id, &mut name);
         p = pass_place(out, p, &name[..n], write);
-        rest[oldest] = empty_bucket();
+        rest[oldest] = RateBucket::FREE;
     }
     p
 }
@@ -152,14 +152,19 @@ fn pass_message(
     if !is_publish(packet_type) {
         return at;
     }
-    let outlook = standing(*m, topic);
+    let Ok(outlook) = m.standing(topic) else {
+        return at;
+    };
     if outlook.rate == 0 {
         return at;
     }
     if is_named(text, next, topic) {
         return at;
     }
-    let left = tokens_left(*m, topic, last);
+    // A topic that the limiter counts is not refused here either.
+    let Ok(left) = m.tokens_left(topic, last) else {
+        return at;
+    };
     pass_topic(out, at, topic, &outlook, &left, last, write)
 }
 
@@ -214,9 +219,9 @@ fn pass(text: &[u8], seen: &Seen, out: &mut [u8], write: bool) -> usize
     let buckets = &seen.monitor.rate_buckets;
     let last = seen.last;
     let first = seen.first;
-    let places = pass_head(out, 0, last, taken(*buckets), write);
+    let places = pass_head(out, 0, last, taken(buckets), write);
     let new = pass_places(text, first, buckets, out, places, write);
-    let topics = pass_new(out, new, last, opening_new(*buckets), write);
+    let topics = pass_new(out, new, last, opening_new(buckets), write);
     pass_topics(text, first, &seen.monitor, last, out, topics, write)
 }
 

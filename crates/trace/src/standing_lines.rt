@@ -1,7 +1,8 @@
 // The lines of where the limit stands: a name in hex and as a person reads it, from when on a message passes, and a topic with all of it.
-ghost use Rattle.std.specs.Prelude.{◌≡◌, ◌≤◌, length};
+ghost use Rattle.std.specs.Prelude.{◌≡◌, ◌≤◌, length, Ok};
 ghost use Rattle.lines.specs.Wrote.{Wrote};
 ghost use Rattle.tables.specs.declared.standing.Opening.TheVariants.{Never, From};
+ghost use Rattle.monitor.specs.Standing.{told_outlook, told_left};
 ghost use Rattle.trace.specs.Standing.{name_text, opening_text, tokens_of, topic_text};
 
 use lines::put::{put_byte, put_bytes, put_hex_line, put_number_line, put_seconds_line};
@@ -57,7 +58,7 @@ pub(crate) fn put_opening(
 
 // How many messages of a topic would pass at that time.
 fn tokens_of(left: &Left) -> u64
-    ensures { (result ≡ tokens_of left.now) × (result ≤ 65536) }
+    ensures { (result ≡ tokens_of (told_left (Ok left.now))) × (result ≤ 65536) }
 {
     if left.kind == 0 {
         return u64::from(left.tokens) + 1;
@@ -74,8 +75,8 @@ pub(crate) fn put_topic(
     left: &Left,
     last: u64,
 ) -> usize
-    ensures text { Wrote out.old out.new at (topic_text topic.now outlook.now left.now last) result }
-    ensures short { length topic.now ≤ 128 → length (topic_text topic.now outlook.now left.now last) ≤ 490 }
+    ensures text { Wrote out.old out.new at (topic_text topic.now (told_outlook (Ok outlook.now)) (told_left (Ok left.now)) last) result }
+    ensures short { length topic.now ≤ 128 → length (topic_text topic.now (told_outlook (Ok outlook.now)) (told_left (Ok left.now)) last) ≤ 490 }
 {
     let rate = outlook.rate;
     let kind = outlook.kind;

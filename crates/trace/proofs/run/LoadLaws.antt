@@ -4,13 +4,14 @@
 use Prim.Native.Nat.{ℕ, zero, suc, ◌+◌, ◌-◌, ◌*◌, ◌≤◌, ◌<◌}
 use mathlib.Core.Path.{◌≡◌, refl, sym, ap, ◌∙◌}
 use mathlib.Core.Bool.{true}
-use Rattle.std.specs.Prelude.{Ok, Err}
+use Rattle.std.specs.Prelude.{Result, Ok, Err}
 use mathlib.Core.List.{List}
 use native.Mathlib.Omega.{arith}
+use native.Mathlib.Bridge.{le_prop}
 use native.Mathlib.Numerals.{sub-one}
 use lib.Dec.{eqb, leb}
 use lib.ListN.{length}
-use borrow.Author.Tests.{eq-eqb, ne_eqb, le-leb, lt-leb}
+use borrow.Author.Tests.{eqb-false, eq-eqb, ne_eqb, le-leb, lt-leb}
 use Rattle.laws.proofs.Cases.{by, whichever}
 use Rattle.topics.specs.declared.matching.Matching.{Matching}
 use Rattle.topics.specs.declared.matching.Matching.TheVariants.{Port}
@@ -18,7 +19,7 @@ use Rattle.tables.specs.Rules.{rule_plan}
 use Rattle.tables.specs.declared.rules.TopicAction.{TopicAction}
 use Rattle.tables.specs.declared.rules.TopicAction.TheVariants.{Allow}
 use Rattle.tables.specs.declared.rules.QosPolicy.{QosPolicy}
-use Rattle.tables.specs.declared.rules.RulePlan.{RulePlan}
+use Rattle.tables.specs.Rules.{RulePlan}
 use Rattle.monitor.specs.Calls.{fresh, tested, with_rule, add_rule}
 use Rattle.monitor.specs.Sound.{Sound}
 use Rattle.monitor.specs.State.{well_formed}
@@ -169,6 +170,11 @@ rule_sound : {m : MqttMonitor} (s : List ℕ) (line : ℕ) (r : RuleLines) → S
 unfolding rule_into
 rule_sound s line r h = whichever (λ (l : Loaded). Sound l.monitor) (eqb r.number 0) (sound_add h _ _ _ _) h
 
+-- a rule that was loaded has four lines
+rule_line : (m : MqttMonitor) (s : List ℕ) (line : ℕ) (r : RuleLines) → (rule_into m s line r).number ≡ 0 → (rule_into m s line r).line ≡ line + 4
+unfolding rule_into
+rule_line m s line r = by (eqb r.number 0) (λ t. rw t (λ e. refl)) (λ t. rw t (λ e. absurd (eqb-false _ _ t e)))
+
 -- so many rules are left after so many lines
 pub record Loading (matching : Matching) (s : List ℕ) (left : ℕ) (place : Place) (m : MqttMonitor) : Type 0 where
   pub short : place.line + 4 * left ≤ 130
@@ -196,16 +202,37 @@ module _ {matching : Matching} {s : List ℕ} {left : ℕ} {place : Place} {m : 
         ∙ sym (rules_turn left s (loaded_as (Ok place) m) more refl) ∙ l.rest
 
     -- it is loaded
-    pub load_turn : {next : Place} {m' : MqttMonitor} → loaded_as (Ok next) m' ≡ rule_into m s place.line (rule_at s place.next) → next.line ≤ place.line + 4
-        → Loading matching s (left - 1) next m'
-    load_turn {next} {m'} e n =
+    pub load_turn : {next : Place} {m' : MqttMonitor} {left' : ℕ} → loaded_as (Ok next) m' ≡ rule_into m s place.line (rule_at s place.next) → left' + 1 ≡ left
+        → Loading matching s left' next m'
+    load_turn {next} {m'} {left'} e n =
+        let fewer : left' ≡ left - 1 = omega arith in
         record {
-          short = omega (arith, l.short, n);
+          short = omega (arith, l.short, n, (rw (← e) at (rule_line m s place.line (rule_at s place.next))) refl);
           sound = rw (← e) at (rule_sound s place.line (rule_at s place.next) l.sound);
-          rest = ap (λ (x : Loaded). rules_into (left - 1) s x) e ∙ sym (rules_turn left s (loaded_as (Ok place) m) more refl) ∙ l.rest;
+          rest = rw fewer (ap (λ (x : Loaded). rules_into (left - 1) s x) e ∙ sym (rules_turn left s (loaded_as (Ok place) m) more refl) ∙ l.rest);
         }
 
   -- all rules are loaded
   pub load_end : left ≤ 0 → loaded_as (Ok place) m ≡ loaded matching s
   unfolding rules_into
   load_end h = let z : left ≡ 0 = omega arith in rw z at l.rest
+
+-- two stops of one number, line and place are the same
+same_stop : {m n line last next other : ℕ} → m ≡ n → line ≡ last → next ≡ other → (r : 1 ≤ m) (s : 1 ≤ n)
+    → ◌≡◌ {A = Stop} (record { number = m; line = line; next = next; refused = r }) (record { number = n; line = last; next = other; refused = s })
+same_stop {m} {n} {line} {last} {next} {other} e f g =
+    rw (e, f, g) (λ (r s : 1 ≤ n). ap (λ (x : 1 ≤ n). record { number = n; line = last; next = other; refused = x }) (le_prop r s))
+
+-- what is loaded tells the answer and the monitor
+pub loaded_once : (r s : Result Place Stop) (m n : MqttMonitor) → loaded_as r m ≡ loaded_as s n → (r ≡ s) × (m ≡ n)
+loaded_once (Ok p) (Ok q) m n e =
+    let next : p.next ≡ q.next = ap (λ (l : Loaded). l.next) e in
+    let line : p.line ≡ q.line = ap (λ (l : Loaded). l.line) e in
+    (rw (next, line), ap (λ (l : Loaded). l.monitor) e)
+loaded_once (Ok p) (Err q) m n e = let k = ap (λ (l : Loaded). l.number) e in absurd (omega (arith, k, q.refused))
+loaded_once (Err p) (Ok q) m n e = let k = ap (λ (l : Loaded). l.number) e in absurd (omega (arith, k, p.refused))
+loaded_once (Err p) (Err q) m n e =
+    let next : p.next ≡ q.next = ap (λ (l : Loaded). l.next) e in
+    let line : p.line ≡ q.line = ap (λ (l : Loaded). l.line) e in
+    let number : p.number ≡ q.number = ap (λ (l : Loaded). l.number) e in
+    (ap Err (same_stop number line next p.refused q.refused), ap (λ (l : Loaded). l.monitor) e)

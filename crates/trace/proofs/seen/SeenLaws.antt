@@ -4,7 +4,7 @@ use Prim.Native.Nat.{ℕ, zero, suc, ◌+◌, ◌≤◌, ◌<◌}
 use mathlib.Core.Path.{◌≡◌, refl, sym, ap, ◌∙◌}
 use mathlib.Core.Bool.{Bool, true, false, ◌&&◌}
 use mathlib.Core.List.{List, [], ◌∷◌}
-use Rattle.std.specs.Prelude.{Ok, Err}
+use Rattle.std.specs.Prelude.{Result, Ok, Err}
 use native.Mathlib.Omega.{arith}
 use lib.Dec.{eqb, leb}
 use lib.ListN.{length}
@@ -14,11 +14,13 @@ use Rattle.slices.specs.Bytes.{same}
 use Rattle.topics.specs.declared.matching.Matching.{Matching}
 use Rattle.tables.specs.Identity.{id_of, is_of}
 use Rattle.tables.specs.declared.identity.Id.{Id}
-use Rattle.monitor.specs.Inspect.{inspect_with}
+use Rattle.monitor.specs.Inspect.{inspect_with, inspected_as}
 use Rattle.monitor.specs.Message.{type_number}
 use Rattle.monitor.specs.Runs.{Call, shipped, after_by}
 use Rattle.monitor.specs.State.{matcher_of}
-use Rattle.monitor.specs.declared.inspection.Inspected.{Inspected}
+use Rattle.monitor.specs.Ended.{Inspected}
+use Rattle.monitor.specs.declared.inspection.Inspection.{Inspection}
+use Rattle.monitor.specs.declared.refusal.Refusal.{Refusal}
 use Rattle.monitor.specs.declared.state.MqttMonitor.{MqttMonitor}
 use Rattle.trace.specs.Groups.{message_at, topic_in, payload_in}
 use Rattle.trace.specs.Seen.{sent_from, first_place, last_time, end_state, seen_in, named_by, is_publish, is_named}
@@ -164,6 +166,11 @@ module _ (matching : Matching) (s : List ℕ) {m : MqttMonitor} where
   unseen stop e =
       let z : stop.number ≡ 0 → ⊥ = λ z. omega (arith, z, stop.refused) in
       rw (unloaded_messages matching s stop e, ← e, ne_eqb _ _ z)
+
+-- the state that an inspection leaves
+pub inspected_state : (r : Result Inspection Refusal) (m : MqttMonitor) → (inspected_as r m).monitor ≡ m
+inspected_state (Ok i) m = refl
+inspected_state (Err e) m = refl
 
 module _ {matching : Matching} {s : List ℕ} {m : MqttMonitor} {last at line : ℕ} (g : Seeing matching s m last at line) where
   -- a message that was read is inspected

@@ -144,8 +144,9 @@ payload-requires c = c.read_message-group.ensures.within.payload_long.1
 pub pass_record-p-requires : goal.pass_record-p-requires
 pass_record-p-requires c = record {
   small = going_small c.loop-at.invariant.0;
-  room = turn_room c.loop-at.invariant.0 c.requires c.loop-at-test.true c.read_message-group.ensures.value
-      c.if-group-ne0.false (plan_is (goal.at.pass_record-p-requires c).After-plan_for-plan);
+  room = rw c.result.ensures
+      (turn_room c.loop-at.invariant.0 c.requires c.loop-at-test.true c.read_message-group.ensures.value c.if-group-ne0.false
+      (plan_is (goal.at.pass_record-p-requires c).After-plan_for-plan));
 }
 
 pub overflow_add-n : goal.overflow_add-n
@@ -156,13 +157,13 @@ loop-at-smaller c =
     omega (arith, c.loop-at-test.true, read_further (text (goal.at.loop-at-smaller c).At-loop-at) c.loop-at.at c.read_message-group.ensures.value c.if-group-ne0.false)
 
 pub loop-at-preserved : goal.loop-at-preserved
-loop-at-preserved c = (
-  (going_turn c.loop-at.invariant.0 c.requires c.loop-at-test.true c.read_message-group.ensures.value
-      c.if-group-ne0.false (plan_is (goal.at.loop-at-preserved c).After-plan_for-plan)
-      c.apply.ensures c.pass_record-p.ensures.next c.pass_record-p.ensures.bytes),
-  (topic_has (goal.at.loop-at-preserved c).Else-group-ne0).2,
-  (payload_has (goal.at.loop-at-preserved c).Else-group-ne0).2,
-)
+loop-at-preserved c =
+    let out = rw c.result.ensures at c.pass_record-p.ensures in (
+      going_turn c.loop-at.invariant.0 c.requires c.loop-at-test.true c.read_message-group.ensures.value c.if-group-ne0.false
+          (plan_is (goal.at.loop-at-preserved c).After-plan_for-plan) c.apply.ensures out.next out.bytes,
+      (topic_has (goal.at.loop-at-preserved c).Else-group-ne0).2,
+      (payload_has (goal.at.loop-at-preserved c).Else-group-ne0).2,
+    )
 
 pub pass_closing-requires-2 : goal.pass_closing-requires-2
 pass_closing-requires-2 c = record {

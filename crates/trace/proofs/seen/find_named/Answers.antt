@@ -49,7 +49,7 @@ topic-requires c = c.read_message-group.ensures.within.topic_long.1
 
 pub returns-then-is_of : goal.returns-then-is_of
 returns-then-is_of c = let has = topic_has (goal.at.returns-then-is_of c).Else-group-ne0 in record {
-  named = rw c.from.ensures (named_here _ _ c.loop-p-test.true c.read_message-group.ensures.value c.if-group-ne0.false (c.topic.ensures ∙ has.0) c.id_of-id.ensures c.is_of.ensures
+  named = rw (c.from.ensures, ← c.topic.ensures) (named_here _ _ c.loop-p-test.true c.read_message-group.ensures.value c.if-group-ne0.false (c.topic.ensures ∙ has.0) c.of.ensures c.is_of.ensures
       c.if-is_of.true
       ∙ c.loop-p.invariant.0);
   short = omega (arith, c.from.ensures, has.1, has.2);
@@ -62,7 +62,7 @@ loop-p-smaller c =
 
 pub loop-p-preserved : goal.loop-p-preserved
 loop-p-preserved c = (
-  named_further _ _ c.loop-p-test.true c.read_message-group.ensures.value c.if-group-ne0.false (c.topic.ensures ∙ (topic_has (goal.at.loop-p-preserved c).Else-group-ne0).0) c.id_of-id.ensures
+  named_further _ _ c.loop-p-test.true c.read_message-group.ensures.value c.if-group-ne0.false (c.topic.ensures ∙ (topic_has (goal.at.loop-p-preserved c).Else-group-ne0).0) c.of.ensures
       c.is_of.ensures c.if-is_of.false
       ∙ c.loop-p.invariant.0,
   (topic_has (goal.at.loop-p-preserved c).Else-group-ne0).2,
@@ -71,4 +71,4 @@ loop-p-preserved c = (
 )
 
 pub returns : goal.returns
-returns c = record { named = named_end (text (goal.at.returns c).At-loop-p) c.args.held c.loop-p-test.false ∙ c.loop-p.invariant.0; short = omega arith; long = c.loop-p.invariant.3 }
+returns c = record { named = named_end (text (goal.at.returns c).At-loop-p) c.args.held.now c.loop-p-test.false ∙ c.loop-p.invariant.0; short = omega arith; long = c.loop-p.invariant.3 }

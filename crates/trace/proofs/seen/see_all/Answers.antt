@@ -11,7 +11,7 @@ use Rattle.trace.specs.Seen.{first_place}
 use Rattle.trace.specs.declared.groups.MessageLines.{MessageLines}
 use Rattle.trace.proofs.run.BufferLaws.{topic_part, payload_part}
 use Rattle.trace.proofs.run.RunLaws.{left_end, left_stop, read_further}
-use Rattle.trace.proofs.seen.SeenLaws.{Seeing, first_is, seeing_start, unseen, seeing_turn, seeing_end}
+use Rattle.trace.proofs.seen.SeenLaws.{first_is, seeing_start, unseen, inspected_state, seeing_turn, seeing_end}
 use Rattle.trace.proofs.seen.see_all.Goals.{After-read_message-group, At-loop-at, Else-group-ne0}
 use Rattle.trace.proofs.seen.see_all.Goals as goal
 
@@ -92,9 +92,10 @@ loop-at-smaller c =
 
 pub loop-at-preserved : goal.loop-at-preserved
 loop-at-preserved c = (
-  seeing_turn c.loop-at.invariant.0 c.loop-at-test.true c.read_message-group.ensures.value c.if-group-ne0.false
+  rw (inspected_state c.inspect-inspected.result c.inspect-inspected.new.self) at
+      (seeing_turn c.loop-at.invariant.0 c.loop-at-test.true c.read_message-group.ensures.value c.if-group-ne0.false
       (c.topic.ensures ∙ (topic_has (goal.at.loop-at-preserved c).Else-group-ne0).0)
-      (c.payload.ensures ∙ (payload_has (goal.at.loop-at-preserved c).Else-group-ne0).0) c.inspect-inspected.ensures,
+      (c.payload.ensures ∙ (payload_has (goal.at.loop-at-preserved c).Else-group-ne0).0) c.inspect-inspected.ensures),
   (topic_has (goal.at.loop-at-preserved c).Else-group-ne0).2,
   (payload_has (goal.at.loop-at-preserved c).Else-group-ne0).2,
 )

@@ -1,6 +1,6 @@
 use Prim.Native.Nat.{ℕ, ◌+◌, ◌-◌, ◌≤◌}
 use mathlib.Core.List.{List, ◌++◌}
-use mathlib.Core.Path.{◌≡◌, sym, ◌∙◌}
+use mathlib.Core.Path.{◌≡◌, refl, sym, ◌∙◌}
 use native.Mathlib.Omega.{arith}
 use lib.ListN.{length, take, set, length-set}
 use lib.Seq.{length-take-le}
@@ -8,6 +8,7 @@ use borrow.Author.Rules.{rules}
 use Rattle.slices.specs.Bytes.{bytes}
 use Rattle.tables.specs.Buckets.{empty_bucket}
 use Rattle.tables.specs.Standing.{oldest_first}
+use Rattle.tables.proofs.ScanLaws.{placed_some, placed_none}
 use Rattle.monitor.specs.Runs.{Call}
 use Rattle.trace.specs.Seen.{sent_from}
 use Rattle.trace.specs.Standing.{name_text, places_text}
@@ -35,23 +36,24 @@ part c = name_text (bytes "place=") (take c.find_named-n.result c.find_named-n.n
 
 abbrev further : (c : After-find_named-n) → List ℕ
 further c =
-    places_text (calls_at_After_find_named_n c) (oldest_first (32 - (c.loop-turn._turn + 1)) (set c.loop-turn.rest c.oldest_live-oldest.result empty_bucket))
+    places_text (calls_at_After_find_named_n c) (oldest_first (32 - (c.loop-turn._turn + 1)) (set c.loop-turn.rest c.in-Some.oldest empty_bucket))
 
 here : (c : After-find_named-n) → places_text (calls_at_After_find_named_n c) (oldest_first (32 - c.loop-turn._turn) c.loop-turn.rest) ≡ part c ++ further c
 here c =
-    places_turn (calls_at_After_find_named_n c) c.loop-turn.rest (omega (arith, c.loop-turn-test.true)) c.oldest_live-oldest.ensures
-    (omega (arith, c.loop-turn.invariant.3, c.if-oldest-ge-BUCKETS.false)) c.find_named-n.ensures.named
+    let found = placed_some c.oldest_live.ensures c.in-Some.is in
+    places_turn (calls_at_After_find_named_n c) c.loop-turn.rest (32 - (c.loop-turn._turn + 1)) (omega (arith, c.loop-turn-test.true)) found.0
+    (omega (arith, c.loop-turn.invariant.3, found.1)) c.find_named-n.ensures.named
 
 pub loop-turn-init : goal.loop-turn-init
 loop-turn-init c =
     let n : length c.args.buckets.now ≡ 32 = search rules in (passing_start _ _ _ _, omega arith, c.buffer_128-name.ensures, n)
 
-pub shape_of-out-then-oldest-ge-BUCKETS : goal.shape_of-out-then-oldest-ge-BUCKETS
-shape_of-out-then-oldest-ge-BUCKETS c = c.loop-turn.invariant.0.long
+pub shape_of-out-in_default : goal.shape_of-out-in_default
+shape_of-out-in_default c = c.loop-turn.invariant.0.long
 
-pub returns-then-oldest-ge-BUCKETS : goal.returns-then-oldest-ge-BUCKETS
-returns-then-oldest-ge-BUCKETS c = let none = places_stop (calls (goal.at.returns-then-oldest-ge-BUCKETS c).At-loop-turn) c.loop-turn.rest
-    (omega (arith, c.loop-turn-test.true)) c.oldest_live-oldest.ensures (omega (arith, c.loop-turn.invariant.3, c.if-oldest-ge-BUCKETS.true)) in
+pub returns-in_default : goal.returns-in_default
+returns-in_default c = let none = places_stop (calls (goal.at.returns-in_default c).At-loop-turn) c.loop-turn.rest (32 - (c.loop-turn._turn + 1))
+    (omega (arith, c.loop-turn-test.true)) refl (omega (arith, c.loop-turn.invariant.3, placed_none c.oldest_live.ensures c.in_default.is)) in
     record { next = (passing_done c.loop-turn.invariant.0 none, omega (arith, c.loop-turn.invariant.1)); bytes = passing_bytes c.loop-turn.invariant.0 none }
 
 pub slice_bounds-name-end : goal.slice_bounds-name-end
@@ -74,13 +76,12 @@ pass_place-p-requires c = record {
 
 pub loop-turn-preserved : goal.loop-turn-preserved
 loop-turn-preserved c = (
-  rw c.empty_bucket.ensures
-      (passing_turn c.loop-turn.invariant.0 (part (goal.at.loop-turn-preserved c).After-find_named-n)
+  passing_turn c.loop-turn.invariant.0 (part (goal.at.loop-turn-preserved c).After-find_named-n)
       (further (goal.at.loop-turn-preserved c).After-find_named-n) (here (goal.at.loop-turn-preserved c).After-find_named-n) c.requires.room
-      c.pass_place-p.ensures.next.0 c.pass_place-p.ensures.bytes),
+      c.pass_place-p.ensures.next.0 c.pass_place-p.ensures.bytes,
   omega (arith, c.loop-turn.invariant.1, c.pass_place-p.ensures.next.1, c.loop-turn-test.true),
   name_long (goal.at.loop-turn-preserved c).After-find_named-n,
-  length-set c.loop-turn.rest c.oldest_live-oldest.result c.empty_bucket.result ∙ c.loop-turn.invariant.3,
+  length-set c.loop-turn.rest c.in-Some.oldest empty_bucket ∙ c.loop-turn.invariant.3,
 )
 
 pub shape_of-out : goal.shape_of-out
