@@ -122,7 +122,11 @@ pub fn closing_len(closing: &Closing) -> usize
 }
 
 /// A record at the beginning of a lent buffer, and its length; a refusal writes nothing.
-pub fn write_record(out: &mut [u8], n: u64, inspected: &MqttInspectResult) -> Result<usize, RecordRefusal>
+pub fn write_record(
+    out: &mut [u8],
+    n: u64,
+    inspected: &MqttInspectResult,
+) -> Result<usize, RecordRefusal>
     ensures answer { written_by result ≡ record_written (length out.old) n inspected.now }
     ensures buffer { out.new ≡ record_kept out.old n inspected.now }
 {

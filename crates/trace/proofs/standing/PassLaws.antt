@@ -1,6 +1,6 @@
 -- A pass over lines, which writes them or only counts them: what is left to go out (`Passing`) begins with all of it (`passing_start`), goes on behind a part (`passing_turn`), for which there is
 -- room (`passing_room`), and ends with nothing left (`passing_done`). Then the lines of each kind, part by part. Assumes nothing.
-use Prim.Native.Nat.{ℕ, zero, suc, ◌+◌, ◌-◌, ◌^◌, ◌≤◌, ◌<◌}
+use Prim.Native.Nat.{ℕ, zero, suc, ◌+◌, ◌^◌, ◌≤◌, ◌<◌}
 use mathlib.Core.Bool.{Bool, true, false}
 use mathlib.Core.List.{List, [], ◌∷◌, ◌++◌}
 use mathlib.Core.Path.{◌≡◌, refl, ap, ◌∙◌}

@@ -1,4 +1,4 @@
-use Rattle.std.proofs.Common.{rules, ◌<◌, ◌≡◌, arith}
+use Rattle.std.proofs.Common.{rules, ◌<◌, arith}
 use lib.ListN.{length, length-append}
 use lib.Seq.{take_all}
 use Rattle.trace.specs.Record.{alerts_text}

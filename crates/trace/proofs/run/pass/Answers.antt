@@ -1,17 +1,13 @@
 use Prim.Native.Nat.{ℕ, ◌+◌, ◌≤◌}
 use mathlib.Core.List.{List}
-use mathlib.Core.Path.{◌≡◌, sym, ap, ◌∙◌}
+use mathlib.Core.Path.{◌≡◌, ap, ◌∙◌}
 use native.Mathlib.Omega.{arith}
 use lib.ListN.{length, take}
-use lib.Seq.{length-take-le}
-use Rattle.monitor.specs.Calls.{fresh}
-use Rattle.monitor.specs.declared.state.MqttMonitor.{MqttMonitor}
 use Rattle.trace.specs.Groups.{topic_in, payload_in}
-use Rattle.trace.specs.Record.{closing_text}
-use Rattle.trace.specs.Trace.{ended_by, planned, trace_text}
+use Rattle.trace.specs.Trace.{ended_by, planned}
 use Rattle.trace.specs.declared.groups.MessageLines.{MessageLines}
 use Rattle.trace.proofs.run.BufferLaws.{topic_part, payload_part}
-use Rattle.trace.proofs.run.RunLaws.{Going, going_start, going_small, turn_room, going_turn, close_room, close_end, close_bytes}
+use Rattle.trace.proofs.run.RunLaws.{going_start, going_small, turn_room, going_turn, close_room, close_end, close_bytes}
 use Rattle.trace.proofs.run.RunLaws.{left, left_end, left_stop, plan_sent, sent_at, read_further, unloaded_text, unloaded_end}
 use Rattle.trace.proofs.run.pass.Goals.{After-loop-at, After-plan_for-plan, After-read_message-group, At-loop-at, Else-group-ne0, Then-group-ne0, In-Err}
 use Rattle.trace.proofs.run.pass.Goals as goal

@@ -3,9 +3,6 @@ use mathlib.Core.List.{List}
 use mathlib.Core.Path.{◌≡◌, ◌∙◌}
 use native.Mathlib.Omega.{arith}
 use lib.ListN.{length, take}
-use lib.Seq.{length-take-le}
-use Rattle.monitor.specs.Calls.{fresh}
-use Rattle.monitor.specs.declared.state.MqttMonitor.{MqttMonitor}
 use Rattle.trace.specs.Groups.{topic_in, payload_in}
 use Rattle.trace.specs.Seen.{first_place}
 use Rattle.trace.specs.declared.groups.MessageLines.{MessageLines}

@@ -1,8 +1,7 @@
 -- `trace::standing::pass_message` meets its contract: the three tests, then the topic's lines. Assumes nothing.
-use mathlib.Core.Path.{◌≡◌, refl}
+use mathlib.Core.Path.{refl}
 use native.Mathlib.Omega.{arith}
 use Rattle.trace.specs.Seen.{sent_from}
-use Rattle.trace.specs.Standing.{message_text, topic_text}
 use Rattle.trace.proofs.standing.PassLaws.{quiet_type, quiet_rate, quiet_named, told_topic, not_refused, nothing_out}
 use Rattle.trace.proofs.standing.pass_message.Goals as goal
 

@@ -1,7 +1,6 @@
 -- `trace::standing_lines::put_topic` meets its contract: a name, three lines and an opening, one after the other. Assumes nothing.
 use Rattle.std.specs.Prelude.{Ok}
 use Rattle.monitor.specs.Standing.{told_outlook, told_left}
-use Prim.Native.Nat.{◌^◌, ◌<◌}
 use native.Mathlib.Omega.{arith}
 use borrow.Author.Rules.{rules}
 use Rattle.lines.proofs.put.WroteLaws.{wrote_then}
