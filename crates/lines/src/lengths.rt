@@ -6,7 +6,7 @@ ghost use Rattle.lines.specs.Line.{number_line, hex_line, flag_line, word_line, 
 
 use crate::words::word_part;
 
-// The number of digits of `n`.
+// The number of digits of `n`: a tenth of it is left each time, as `put_decimal` goes; a chain is no plainer.
 pub fn decimal_len(n: u64) -> usize
     ensures { (result ≡ length (decimal n)) × (result ≤ 20) }
 {

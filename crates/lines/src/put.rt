@@ -31,7 +31,8 @@ pub fn put_bytes(out: &mut [u8], at: usize, s: &[u8]) -> usize
     p
 }
 
-// A number in decimal, with no spare zeros. Its digits are found from the last on, so they are set out apart first.
+// A number in decimal, with no spare zeros. Its digits are found from the last on, and only then is it known how many there are, so they are set
+// out apart first, by a loop over what is left of the number: a chain would turn them round, no plainer.
 pub fn put_decimal(out: &mut [u8], at: usize, n: u64) -> usize
     ensures { Wrote out.old out.new at (decimal n) result }
 {

@@ -108,7 +108,8 @@ fn hex_value(c: u8) -> u8
     if c <= b'9' { c - b'0' } else { c - b'a' + 10 }
 }
 
-// The bytes that the hex digits of `l` spell, two for each, to the beginning of `out`.
+// The bytes that the hex digits of `l` spell, two for each, to the beginning of `out`. One place counts in both, in `l` by twos, so it stays an index: pairs and places side by
+// side are no plainer.
 fn put_unhex(l: &[u8], out: &mut [u8])
     requires { hex_refusal (length out.old) l.now ≡ 0 }
     ensures { out.new ≡ sets out.old 0 (unhex l.now) }
