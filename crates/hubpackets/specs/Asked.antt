@@ -1,6 +1,6 @@
 -- What the words behind the program's name ask for: the time and the verdict that the messages of a capture get, and whether they are inspected.
 -- Assumes nothing.
-use Rattle.std.specs.Prelude.{true, false, cond, List, ℕ, drop}
+use Rattle.std.specs.Prelude.{true, false, cond, List, ℕ, drop, Option, Some, None}
 use Rattle.slices.specs.Bytes.{bytes, same, begins}
 use Rattle.lines.specs.ReadDecimal.{decimal_of}
 use Rattle.lines.specs.declared.value.Number.{Number}
@@ -9,22 +9,18 @@ use Rattle.hubpackets.specs.declared.asked.Asked.{Asked}
 
 -- before the first word
 abbrev pub asked_first : Asked
-asked_first = record { known = true; at = 0; ok = true; inspect = false }
-
--- a word that is not known
-abbrev pub asked_unknown : Asked
-asked_unknown = record { known = false; at = 0; ok = true; inspect = false }
+asked_first = record { at = 0; ok = true; inspect = false }
 
 -- a time, if it is one
-abbrev pub asked_at : Asked → Number → Asked
-asked_at asked (Value at) = record { known = asked.known; at = at; ok = asked.ok; inspect = asked.inspect }
-asked_at asked Bad = asked_unknown
+abbrev pub asked_at : Asked → Number → Option Asked
+asked_at asked (Value at) = Some (record { at = at; ok = asked.ok; inspect = asked.inspect })
+asked_at asked Bad = None
 
--- one word more: `--clock=ok|bad`, `--inspect`, or `--at=` and a decimal of 64 bits
-unfoldable pub asked_with : Asked → List ℕ → Asked
+-- one word more: `--clock=ok|bad`, `--inspect`, or `--at=` and a decimal of 64 bits; none, if the word is not known
+unfoldable pub asked_with : Asked → List ℕ → Option Asked
 asked_with asked word =
-    cond (same (bytes "--clock=ok") word) (record { known = asked.known; at = asked.at; ok = true; inspect = asked.inspect })
-    (cond (same (bytes "--clock=bad") word) (record { known = asked.known; at = asked.at; ok = false; inspect = asked.inspect })
-    (cond (same (bytes "--inspect") word) (record { known = asked.known; at = asked.at; ok = asked.ok; inspect = true })
+    cond (same (bytes "--clock=ok") word) (Some (record { at = asked.at; ok = true; inspect = asked.inspect }))
+    (cond (same (bytes "--clock=bad") word) (Some (record { at = asked.at; ok = false; inspect = asked.inspect }))
+    (cond (same (bytes "--inspect") word) (Some (record { at = asked.at; ok = asked.ok; inspect = true }))
     (cond (begins (bytes "--at=") word) (asked_at asked (decimal_of 0 18446744073709551615 (drop 5 word)))
-    asked_unknown)))
+    None)))

@@ -60,7 +60,7 @@ fn records_buffer() -> [u8; 3145728]
 // Says where a capture stops being MQTT, or its records have no more room, and by which number.
 fn stop(number: u32, place: usize) {
     let mut said = [0u8; 64];
-    let a = put_number_line(&mut said, 0, b"end=", number as u64);
+    let a = put_number_line(&mut said, 0, b"end=", u64::from(number));
     let b = put_number_line(&mut said, a, b"byte=", place as u64);
     io::write_all(STDERR_FILENO, &said[..b]);
 }
@@ -68,7 +68,7 @@ fn stop(number: u32, place: usize) {
 // Says at which line a settings text is refused, and by which number.
 fn refuse(number: u32, line: u64) {
     let mut said = [0u8; 64];
-    let a = put_number_line(&mut said, 0, b"end=", number as u64);
+    let a = put_number_line(&mut said, 0, b"end=", u64::from(number));
     let b = put_number_line(&mut said, a, b"line=", line);
     io::write_all(STDERR_FILENO, &said[..b]);
 }
@@ -103,17 +103,21 @@ fn read_capture(rt: &HostRuntime, capture: &mut [u8]) -> Result<usize, i32>
 fn packets_of(rt: &HostRuntime, bytes: &[u8], at: u64, ok: bool, out: &mut [u8]) {
     let mut place: usize = 0;
     while place < bytes.len() {
-        let packet = read_packet(bytes, place);
-        if packet.number != 0 {
-            stop(packet.number, place);
-            return;
-        }
-        let lines = packet_lines(bytes, place, at, ok, out);
-        if lines.number != 0 {
-            stop(lines.number, place);
-            return;
-        }
-        let written = output::write_all(&mut rt.stdout(), &out[..lines.length]);
+        let packet = match read_packet(bytes, place) {
+            Ok(packet) => packet,
+            Err(why) => {
+                stop(why.number(), place);
+                return;
+            }
+        };
+        let length = match packet_lines(bytes, place, at, ok, out) {
+            Ok(length) => length,
+            Err(why) => {
+                stop(why.number(), place);
+                return;
+            }
+        };
+        let written = output::write_all(&mut rt.stdout(), &out[..length]);
         if let Err(error) = written {
             said::fail(rt, "hubpackets: the lines were not written whole", error);
             return;
@@ -174,14 +178,13 @@ fn inspect_under(rt: &HostRuntime, capture: &mut [u8], at: u64, ok: bool) {
 
 // The capture's buffer is here, one for both ways: what is built into `main` takes its stack whichever way is gone.
 fn main(rt: HostRuntime) {
-    let asked = asked::by_words(&rt);
-    if !asked.known {
+    let Some(asked) = asked::by_words(&rt) else {
         io::write_all(
             STDERR_FILENO,
             b"hubpackets: it takes --at=MICROSECONDS, --clock=ok or --clock=bad, and --inspect; it reads a capture from standard input, and with --inspect a settings text from descriptor 3\n",
         );
         return;
-    }
+    };
     let mut capture = capture_buffer();
     if asked.inspect {
         inspect_under(&rt, &mut capture, asked.at, asked.ok);

@@ -35,7 +35,25 @@ module _ {A : Type 0} (f : ℕ → A) (reserved : f 15 ≡ f 0) where
       by (eqb k 12) (at k 12 refl) (λ n12.
       by (eqb k 13) (at k 13 refl) (λ n13.
       by (eqb k 14) (at k 14 refl) (λ n14.
-      let p : k ≡ 15 = omega (arith, eqb-false _ _ n0, eqb-false _ _ n1, eqb-false _ _ n2, eqb-false _ _ n3, eqb-false _ _ n4, eqb-false _ _ n5, eqb-false _ _ n6, eqb-false _ _ n7, eqb-false _ _ n8, eqb-false _ _ n9, eqb-false _ _ n10, eqb-false _ _ n11, eqb-false _ _ n12, eqb-false _ _ n13, eqb-false _ _ n14) in rw p refl)))))))))))))))
+      let p : k ≡ 15 = omega (
+        arith,
+        eqb-false _ _ n0,
+        eqb-false _ _ n1,
+        eqb-false _ _ n2,
+        eqb-false _ _ n3,
+        eqb-false _ _ n4,
+        eqb-false _ _ n5,
+        eqb-false _ _ n6,
+        eqb-false _ _ n7,
+        eqb-false _ _ n8,
+        eqb-false _ _ n9,
+        eqb-false _ _ n10,
+        eqb-false _ _ n11,
+        eqb-false _ _ n12,
+        eqb-false _ _ n13,
+        eqb-false _ _ n14,
+      ) in
+      rw p refl)))))))))))))))
 
 module _ (k flags : ℕ) (b : List ℕ) (h : k < 16) where
   pub same_refusal : body_refusal (type_number (type_at k)) flags b ≡ body_refusal k flags b

@@ -3,3 +3,4 @@ pub mod Missing
 pub mod RefusalLaws
 pub mod Steps
 pub mod Taken
+pub mod ToldLaws

@@ -55,7 +55,7 @@ fn connect_tail(f: u8, b: &[u8], client: Field) -> Option<Field>
 }
 
 // The checks of section 3.1, but for the client id's own.
-#[tactic(auto, using(crate::proofs::connect::ConnectLaws::head_long, crate::proofs::connect::ConnectLaws::tail_broken), unfolding(crate::specs::Connect::connect_built, crate::specs::Fields::ends_behind))]
+#[tactic(auto, using(crate::proofs::connect::ConnectLaws::head_long, crate::proofs::connect::ConnectLaws::no_tail), unfolding(crate::specs::Connect::connect_built, crate::specs::Fields::ends_behind))]
 pub fn connect_built(flags: u8, b: &[u8]) -> bool
     ensures { result ≡ connect_built flags b.now }
 {

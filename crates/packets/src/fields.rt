@@ -5,7 +5,7 @@ ghost use Rattle.packets.specs.Fields.{Inside, is_string, field_told, begin, roo
 use slices::bytes::has_byte;
 use topics::utf8::is_utf8;
 
-// A field: its number, for one that is a number; its bytes are from..next, and the next field begins at `next`.
+// A field: its number, for one that is a number; its bytes are from..next, and the next field begins at `next`. Places, not slices, as in the message that is made of it (`Within`, specs/Taken.antt).
 #[derive(Clone, Copy, Debug, PartialEq, Eq)]
 pub struct Field {
     pub value: usize,

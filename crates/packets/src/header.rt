@@ -13,6 +13,7 @@ pub struct Length {
 }
 
 // A header: the packet's type, of which `Auth` is what MQTT 3.1.1 reserves, by either of its numbers, 0 and 15; its flags; and its body, which stands at from..to, from the packet's first byte.
+// Places, not a slice, as in the message that is made of it (`Within`, specs/Taken.antt).
 #[derive(Clone, Copy)]
 pub struct Header {
     pub packet_type: MqttPacketType,
@@ -28,8 +29,7 @@ fn byte_at(s: &[u8], at: usize) -> u8
     s.get(at).copied().unwrap_or(0)
 }
 
-// The length field at a place. A byte that is not there ends it, so that the places behind it are never asked for.
-// There is none where a fourth byte says that one more follows.
+// The length field at a place. A byte that is not there ends it, so that the places behind it are never asked for. There is none where a fourth byte says that one more follows.
 #[tactic(auto, unfolding(crate::specs::Header::length_at))]
 fn length_at(s: &[u8], at: usize) -> Option<Length>
     ensures value { length_told result ≡ length_at s.now at }

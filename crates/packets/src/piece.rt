@@ -2,7 +2,7 @@
 ghost use Rattle.std.specs.Prelude.{◌≡◌, Some};
 ghost use Rattle.packets.specs.Piece.{piece_told, plain_piece};
 
-// A piece of a body: the topic is at from..to, the payload begins at `rest`, and the next piece at `next`.
+// A piece of a body: the topic is at from..to, the payload begins at `rest`, and the next piece at `next`. Places, not slices, as in the message that is made of it (`Within`, specs/Taken.antt).
 #[derive(Clone, Copy, Debug, PartialEq, Eq)]
 pub struct Piece {
     pub qos: u8,

@@ -18,7 +18,7 @@ head_long level b e =
     let name : Bool = begins (0 ∷ 4 ∷ bytes "MQTT") b in
     leb-true 10 (length b) (both (leb 10 (length b)) name (both (leb 10 (length b) && name) (eqb (get_or b 6 0) level) e).0).0
 
-pub tail_broken : (f : ℕ) (b : List ℕ) → connect_tail f b broken_field ≡ broken_field
+pub no_tail : (f : ℕ) (b : List ℕ) → connect_tail f b broken_field ≡ broken_field
 unfolding connect_tail
-tail_broken f b =
+no_tail f b =
     rw (string_if_broken b (is_set 4 f), data_if_broken b (is_set 4 f), string_if_broken b (is_set 128 f), data_if_broken b (is_set 64 f))

@@ -10,7 +10,8 @@ use borrow.Author.Tests.{leb-true, le-leb}
 use Rattle.laws.proofs.Cases.{choose, clash, whichever}
 use Rattle.laws.proofs.Tests.{both, alike}
 use Rattle.lines.specs.Span.{part}
-use Rattle.packets.specs.Fields.{Inside, is_string, broken_field, room_behind, byte_field, number_field, data_of, data_field, string_of, string_field, byte_if, number_if, data_if, string_if, ToldField}
+use Rattle.packets.specs.Fields.{Inside, is_string, broken_field, room_behind, byte_field, number_field, data_of, data_field, string_of, string_field, byte_if, number_if, data_if, string_if}
+use Rattle.packets.specs.Fields.{ToldField}
 
 -- a comparison that cannot overflow is the same
 pub leb_less : (a n l : ℕ) → n ≤ l → leb a (l - n) ≡ leb (a + n) l

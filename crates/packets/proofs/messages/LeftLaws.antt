@@ -1,7 +1,7 @@
 -- Laws for loops over a packet's messages: what is left of them at a step is `stepped`, all of them are good, and at the first step all are left. Assumes nothing.
 use mathlib.Core.Bool.{Bool, true}
 use mathlib.Core.List.{List, [], ◌∷◌, ◌++◌, map}
-use mathlib.Core.Path.{◌≡◌, refl, sym, ap, ◌∙◌}
+use mathlib.Core.Path.{◌≡◌, refl, sym, ap, subst, ◌∙◌}
 use Prim.Native.Nat.{ℕ, zero, suc, ◌+◌, ◌-◌, ◌≤◌, ◌<◌}
 use native.Mathlib.Numerals.{sub-one}
 use native.Mathlib.Omega.{arith}
@@ -58,6 +58,26 @@ module _ (s : List ℕ) (place now_us : ℕ) (ok : Bool) where
     pub good_next : Good k step → Good (k - 1) m.next
     good_next g = (good_both g).1
 
+  -- the same in a loop over 0..n, of which i are done
+  module _ {n i : ℕ} (step : ℕ) (h : i < n) {m : ToldMessage} (e : m ≡ message_at s place step now_us ok) where
+    more : 0 < n - i
+    more = omega arith
+
+    one_less : n - i - 1 ≡ n - (i + 1)
+    one_less = omega arith
+
+    pub turn_for : left (n - i) step ≡ m ∷ left (n - (i + 1)) m.next
+    turn_for = rw (turn step more e, one_less)
+
+    pub taken_for : Good (n - i) step → m.number ≡ 0
+    taken_for g = eqb-true m.number 0 (good_both step more e g).0
+
+    pub within_for : Good (n - i) step → Within s place m
+    within_for g = good_now step more e g
+
+    pub good_for : Good (n - i) step → Good (n - (i + 1)) m.next
+    good_for g = subst (λ (k : ℕ). Good k m.next) one_less (good_next step more e g)
+
   -- of none there is none
   pub none_left : {k : ℕ} (step : ℕ) → k ≡ 0 → left k step ≡ []
   unfolding stepped
@@ -70,6 +90,16 @@ module _ (s : List ℕ) (place now_us : ℕ) (ok : Bool) where
 
     pub first_good : Good p.messages p.first
     first_good = rw (e, steps.in_order s place now_us ok (rw e at z)) (all_good s place now_us ok)
+
+    -- the same in a loop over 0..n
+    none_done : p.messages - 0 ≡ p.messages
+    none_done = omega arith
+
+    pub first_left_for : left (p.messages - 0) p.first ≡ messages_at s place now_us ok
+    first_left_for = rw none_done first-left
+
+    pub first_good_for : Good (p.messages - 0) p.first
+    first_good_for = rw none_done first_good
 
     pub first_few : p.messages ≤ 134217730
     first_few = rw e (limited s place (rw e at z))

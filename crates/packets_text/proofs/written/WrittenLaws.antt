@@ -1,41 +1,22 @@
 -- Laws of a packet's lines: the loops over its messages, and each way through the answer. Assumes nothing.
 use mathlib.Core.Bool.{Bool}
 use mathlib.Core.List.{List, [], ◌++◌}
-use mathlib.Core.Path.{◌≡◌, ap, subst, ◌∙◌}
+use mathlib.Core.Path.{◌≡◌, ap, ◌∙◌}
 use Prim.Native.Nat.{ℕ, ◌+◌, ◌-◌, ◌≤◌, ◌<◌}
 use lib.ListN.{length, length-append}
 use lib.Seq.{sets}
-use native.Mathlib.Omega.{arith}
-use borrow.Author.Tests.{eqb-true, ne_eqb, le-leb, lt-leb}
+use borrow.Author.Tests.{ne_eqb, le-leb, lt-leb}
 use Rattle.packets.specs.Messages.{message_at, ToldMessage}
 use Rattle.packets.specs.Packet.{packet_at, ToldPacket}
-use Rattle.packets.specs.Taken.{Within}
-use Rattle.packets.proofs.messages.LeftLaws.{left, Good, turn, good_both, good_now, good_next, first_good, none_left, first-left}
+use Rattle.packets.proofs.messages.LeftLaws.{left, turn_for, none_left, first-left, first_left_for}
 use Rattle.packets_text.specs.PacketText.{text_of, texts_of, packet_text, lines_refusal, no_lines, lines_end, lines_kept}
 
 module _ (s : List ℕ) (place now_us : ℕ) (ok : Bool) where
-  -- the message at a step, of which `i` of `n` are done
+  -- the lines of the message at a step, of which `i` of `n` are done
   module _ {n i : ℕ} (step : ℕ) (h : i < n) {m : ToldMessage} (e : m ≡ message_at s place step now_us ok) where
-    more : 0 < n - i
-    more = omega arith
-
-    one_less : n - i - 1 ≡ n - (i + 1)
-    one_less = omega arith
-
-    -- it is not refused, and lies in its packet
-    pub there : Good s place now_us ok (n - i) step → m.number ≡ 0
-    there g = eqb-true m.number 0 (good_both s place now_us ok step more e g).0
-
-    pub here : Good s place now_us ok (n - i) step → Within s place m
-    here g = good_now s place now_us ok step more e g
-
-    pub ahead : Good s place now_us ok (n - i) step → Good s place now_us ok (n - (i + 1)) m.next
-    ahead g = subst (λ (k : ℕ). Good s place now_us ok k m.next) one_less (good_next s place now_us ok step more e g)
-
-    -- the lines
     pub turn_text : texts_of s (left s place now_us ok (n - i) step) ≡ text_of s m ++ texts_of s (left s place now_us ok (n - (i + 1)) m.next)
     unfolding texts_of
-    turn_text = rw (turn s place now_us ok step more e, one_less)
+    turn_text = rw (turn_for s place now_us ok step h e)
 
     pub turn_length : length (texts_of s (left s place now_us ok (n - i) step)) ≡ length (text_of s m) + length (texts_of s (left s place now_us ok (n - (i + 1)) m.next))
     turn_length = ap length turn_text ∙ length-append (text_of s m) (texts_of s (left s place now_us ok (n - (i + 1)) m.next))
@@ -46,18 +27,12 @@ module _ (s : List ℕ) (place now_us : ℕ) (ok : Bool) where
   none_text step e = rw (none_left s place now_us ok step e)
 
   module _ {p : ToldPacket} (e : p ≡ packet_at s place) (z : p.number ≡ 0) where
-    none_done : p.messages - 0 ≡ p.messages
-    none_done = omega arith
-
     -- at the first step all are left
-    pub first_goods : Good s place now_us ok (p.messages - 0) p.first
-    first_goods = rw none_done (first_good s place now_us ok e z)
-
     pub first_text : texts_of s (left s place now_us ok p.messages p.first) ≡ packet_text s place now_us ok
     first_text = ap (texts_of s) (first-left s place now_us ok e z)
 
     pub first_texts : texts_of s (left s place now_us ok (p.messages - 0) p.first) ≡ packet_text s place now_us ok
-    first_texts = rw none_done first_text
+    first_texts = ap (texts_of s) (first_left_for s place now_us ok e z)
 
   -- each way through the answer
   module _ {p : ToldPacket} (e : p ≡ packet_at s place) where

@@ -7,33 +7,6 @@ use Rattle.hubpackets.specs.Asked.{asked_with}
 use native.Mathlib.Omega.{arith}
 use Rattle.hubpackets.proofs.asked.with_word.Goals as goal
 
-pub returns-then-same_bytes : goal.returns-then-same_bytes
-unfolding asked_with
-returns-then-same_bytes c = rw (sym c.same_bytes.ensures ∙ c.if-same_bytes.true)
-
-pub returns-then-same_bytes-2 : goal.returns-then-same_bytes-2
-unfolding asked_with
-returns-then-same_bytes-2 c =
-    let same_bytes = c.same_bytes in
-    let if1 = c.if-same_bytes in
-    rw (sym same_bytes.ensures ∙ if1.false, sym c.same_bytes-2.ensures ∙ c.if-same_bytes-2.true)
-
-pub returns-then-same_bytes-3 : goal.returns-then-same_bytes-3
-unfolding asked_with
-returns-then-same_bytes-3 c =
-    let first = sym c.same_bytes.ensures ∙ c.if-same_bytes.false in
-    let second = sym c.same_bytes-2.ensures ∙ c.if-same_bytes-2.false in
-    rw (first, second, sym c.same_bytes-3.ensures ∙ c.if-same_bytes-3.true)
-
-pub returns-then-not-starts_with : goal.returns-then-not-starts_with
-unfolding asked_with
-returns-then-not-starts_with c =
-    let first = sym c.same_bytes.ensures ∙ c.if-same_bytes.false in
-    let second = sym c.same_bytes-2.ensures ∙ c.if-same_bytes-2.false in
-    let third = sym c.same_bytes-3.ensures ∙ c.if-same_bytes-3.false in
-    let key = sym c.starts_with.ensures ∙ c.if-not-starts_with.true in
-    rw (first, second, third, key) c.unknown.ensures
-
 pub slice_bounds-decimal-count : goal.slice_bounds-decimal-count
 slice_bounds-decimal-count c = let h = begins_fits (bytes "--at=") _ (sym c.starts_with.ensures ∙ c.if-not-starts_with.false) in omega (arith, h)
 
@@ -51,7 +24,7 @@ returns-in-Value c =
     let second = sym c.same_bytes-2.ensures ∙ c.if-same_bytes-2.false in
     let third = sym c.same_bytes-3.ensures ∙ c.if-same_bytes-3.false in
     let key = sym c.starts_with.ensures ∙ c.if-not-starts_with.false in
-    let time = sym c.decimal-time.ensures ∙ c.in-Value.is in
+    let time = sym c.decimal.ensures ∙ c.in-Value.is in
     rw (first, second, third, key, ← tail_whole word 5, time)
 
 pub returns-in-Bad : goal.returns-in-Bad
@@ -62,5 +35,5 @@ returns-in-Bad c =
     let second = sym c.same_bytes-2.ensures ∙ c.if-same_bytes-2.false in
     let third = sym c.same_bytes-3.ensures ∙ c.if-same_bytes-3.false in
     let key = sym c.starts_with.ensures ∙ c.if-not-starts_with.false in
-    let time = sym c.decimal-time.ensures ∙ c.in-Bad.is in
-    rw (first, second, third, key, ← tail_whole word 5, time) c.unknown-in-Bad.ensures
+    let time = sym c.decimal.ensures ∙ c.in-Bad.is in
+    rw (first, second, third, key, ← tail_whole word 5, time)
