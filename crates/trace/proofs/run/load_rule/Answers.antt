@@ -28,15 +28,16 @@ pub slice_bounds-plan_rule-end : goal.slice_bounds-plan_rule-end
 slice_bounds-plan_rule-end c = sym (length-take-le _ _ (pattern_has (goal.at.slice_bounds-plan_rule-end c).Else-rule-ne0).1)
 
 pub invariant_of-result-in-Err : goal.invariant_of-result-in-Err
-invariant_of-result-in-Err c = record { refused = rw c.number.ensures (rule_real c.in-Err.refusal) }
+invariant_of-result-in-Err c = record { refused = rw (← c.number.ensures) at (rule_real c.in-Err.refusal) }
 
 pub offset_bounds-m-placement : goal.offset_bounds-m-placement
 offset_bounds-m-placement c = omega (arith, c.in-Ok.ensures.within)
 
 pub returns-in-Err : goal.returns-in-Err
 returns-in-Err c =
-    rw (c.number.ensures, ← c.read_rule-rule.ensures.value)
-    (rule_refused _ _ _ _ c.requires.formed c.if-rule-ne0.false (pattern_has (goal.at.returns-in-Err c).Else-rule-ne0).0 c.in-Err.ensures.plan (λ z. omega (arith, z, rule_real c.in-Err.refusal)))
+    let refused = rule_refused c.args.m.now c.args.text.now c.args.start.line c.read_rule-rule.result c.requires.formed c.if-rule-ne0.false (pattern_has (goal.at.returns-in-Err c).Else-rule-ne0).0 c.in-Err.ensures.plan
+    (λ z. omega (arith, z, rule_real c.in-Err.refusal)) in
+    rw (← c.read_rule-rule.ensures.value) (rw (← c.number.ensures) at refused)
 
 pub returns-in-Ok : goal.returns-in-Ok
 returns-in-Ok c =

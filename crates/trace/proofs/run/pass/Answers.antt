@@ -1,51 +1,17 @@
-use Prim.Native.Nat.{ℕ, ◌+◌, ◌≤◌}
-use mathlib.Core.List.{List}
+use Prim.Native.Nat.{◌+◌, ◌≤◌}
 use mathlib.Core.Path.{◌≡◌, ap, ◌∙◌}
 use native.Mathlib.Omega.{arith}
 use lib.ListN.{length, take}
 use Rattle.trace.specs.Groups.{topic_in, payload_in}
 use Rattle.trace.specs.Trace.{ended_by, planned}
-use Rattle.trace.specs.declared.groups.MessageLines.{MessageLines}
 use Rattle.trace.proofs.run.BufferLaws.{topic_part, payload_part}
 use Rattle.trace.proofs.run.RunLaws.{going_start, going_small, turn_room, going_turn, close_room, close_end, close_bytes}
 use Rattle.trace.proofs.run.RunLaws.{left, left_end, left_stop, plan_sent, sent_at, read_further, unloaded_text, unloaded_end}
-use Rattle.trace.proofs.run.pass.Goals.{After-loop-at, After-plan_for-plan, After-read_message-group, At-loop-at, Else-group-ne0, Then-group-ne0, In-Err}
+use Rattle.trace.proofs.run.pass.Goals.{After-loop-at, After-plan_for-plan, After-read_message-group, Else-group-ne0, Then-group-ne0}
 use Rattle.trace.proofs.run.pass.Goals as goal
 
--- the text, and what was read of it
-abbrev text_at_After_loop_at : (c : After-loop-at) → List ℕ
-text_at_After_loop_at c = c.args.text.now
-
--- the text, and what was read of it
-abbrev text_at_After_plan_for_plan : (c : After-plan_for-plan) → List ℕ
-text_at_After_plan_for_plan c = c.args.text.now
-
--- the text, and what was read of it
-abbrev text_at_Else_group_ne0 : (c : Else-group-ne0) → List ℕ
-text_at_Else_group_ne0 c = c.args.text.now
-
--- the text, and what was read of it
-abbrev text_at_Then_group_ne0 : (c : Then-group-ne0) → List ℕ
-text_at_Then_group_ne0 c = c.args.text.now
-
--- the text, and what was read of it
-abbrev text : (c : At-loop-at) → List ℕ
-text c = c.args.text.now
-
-abbrev group_at_After_plan_for_plan : (c : After-plan_for-plan) → MessageLines
-group_at_After_plan_for_plan c = c.read_message-group.result
-
-abbrev group_at_Else_group_ne0 : (c : Else-group-ne0) → MessageLines
-group_at_Else_group_ne0 c = c.read_message-group.result
-
-abbrev group_at_Then_group_ne0 : (c : Then-group-ne0) → MessageLines
-group_at_Then_group_ne0 c = c.read_message-group.result
-
-abbrev group : (c : After-read_message-group) → MessageLines
-group c = c.read_message-group.result
-
 -- lines and messages are counted far below the largest number
-numbers_small : (c : After-read_message-group) → (c.loop-at.line ≤ 65666) × (c.loop-at.n ≤ 65536) × ((group c).line ≤ 6)
+numbers_small : (c : After-read_message-group) → (c.loop-at.line ≤ 65666) × (c.loop-at.n ≤ 65536) × (c.read_message-group.result.line ≤ 6)
 numbers_small c =
     let going = c.loop-at.invariant.0 in (
       omega (arith, going.lines, going.short, c.loop-at-test.true),
@@ -54,46 +20,34 @@ numbers_small c =
     )
 
 -- after a message that is refused none is left
-refused : (c : Then-group-ne0) → left (text_at_Then_group_ne0 c) c.loop-at.at c.loop-at.line ≡ ended_by (group_at_Then_group_ne0 c).number (c.loop-at.line + 1 + (group_at_Then_group_ne0 c).line)
+refused : (c : Then-group-ne0) → left c.args.text.now c.loop-at.at c.loop-at.line ≡ ended_by c.read_message-group.result.number (c.loop-at.line + 1 + c.read_message-group.result.line)
 refused c =
     left_stop _ c.loop-at.line c.loop-at-test.true c.read_message-group.ensures.value c.if-group-ne0.true
 
 -- the message's topic and payload are the first bytes of their buffers
-topic_has_at_After_plan_for_plan : (c : After-plan_for-plan) → let buffer = c.read_message-group.new.topic in
-    (take (group_at_After_plan_for_plan c).msg.topic_len buffer ≡ topic_in (text_at_After_plan_for_plan c) (group_at_After_plan_for_plan c)) ×
-    ((group_at_After_plan_for_plan c).msg.topic_len ≤ length buffer) × (length buffer ≡ 128)
-topic_has_at_After_plan_for_plan c =
-    topic_part _ _ _ c.read_message-group.ensures.value c.if-group-ne0.false c.loop-at.invariant.1 c.read_message-group.ensures.topic
-
--- the message's topic and payload are the first bytes of their buffers
 topic_has : (c : Else-group-ne0) → let buffer = c.read_message-group.new.topic in
-    (take (group_at_Else_group_ne0 c).msg.topic_len buffer ≡ topic_in (text_at_Else_group_ne0 c) (group_at_Else_group_ne0 c)) ×
-    ((group_at_Else_group_ne0 c).msg.topic_len ≤ length buffer) × (length buffer ≡ 128)
+    (take c.read_message-group.result.msg.topic_len buffer ≡ topic_in c.args.text.now c.read_message-group.result) ×
+    (c.read_message-group.result.msg.topic_len ≤ length buffer) × (length buffer ≡ 128)
 topic_has c =
     topic_part _ _ _ c.read_message-group.ensures.value c.if-group-ne0.false c.loop-at.invariant.1 c.read_message-group.ensures.topic
 
-payload_has_at_After_plan_for_plan : (c : After-plan_for-plan) → let buffer = c.read_message-group.new.payload in
-    (take (group_at_After_plan_for_plan c).msg.payload_inspectable_len buffer ≡ payload_in (text_at_After_plan_for_plan c) (group_at_After_plan_for_plan c))
-    × ((group_at_After_plan_for_plan c).msg.payload_inspectable_len ≤ length buffer) × (length buffer ≡ 256)
-payload_has_at_After_plan_for_plan c =
-    payload_part _ _ _ c.read_message-group.ensures.value c.if-group-ne0.false c.loop-at.invariant.2 c.read_message-group.ensures.payload
-
 payload_has : (c : Else-group-ne0) → let buffer = c.read_message-group.new.payload in
-    (take (group_at_Else_group_ne0 c).msg.payload_inspectable_len buffer ≡ payload_in (text_at_Else_group_ne0 c) (group_at_Else_group_ne0 c))
-    × ((group_at_Else_group_ne0 c).msg.payload_inspectable_len ≤ length buffer) × (length buffer ≡ 256)
+    (take c.read_message-group.result.msg.payload_inspectable_len buffer ≡ payload_in c.args.text.now c.read_message-group.result)
+    × (c.read_message-group.result.msg.payload_inspectable_len ≤ length buffer) × (length buffer ≡ 256)
 payload_has c =
     payload_part _ _ _ c.read_message-group.ensures.value c.if-group-ne0.false c.loop-at.invariant.2 c.read_message-group.ensures.payload
 
 -- its plan is that of the message sent
-plan_is : (c : After-plan_for-plan) → c.plan_for-plan.result ≡ planned c.loop-at.m (sent_at (text_at_After_plan_for_plan c) c.loop-at.at)
+plan_is : (c : After-plan_for-plan) → c.plan_for-plan.result ≡ planned c.loop-at.m (sent_at c.args.text.now c.loop-at.at)
 plan_is c =
-    plan_sent _ _ c.loop-at.m c.read_message-group.ensures.value (c.topic.ensures ∙ (topic_has_at_After_plan_for_plan c).0)
-    (c.payload.ensures ∙ (payload_has_at_After_plan_for_plan c).0)
+    let read = c.read_message-group.ensures.value in
+    plan_sent _ _ c.loop-at.m read (c.topic.ensures ∙ (topic_part _ _ _ read c.if-group-ne0.false c.loop-at.invariant.1 c.read_message-group.ensures.topic).0)
+    (c.payload.ensures ∙ (payload_part _ _ _ read c.if-group-ne0.false c.loop-at.invariant.2 c.read_message-group.ensures.payload).0)
     c.plan_for-plan.ensures
 
 -- at the text's end none is left
-ended : (c : After-loop-at) → left (text_at_After_loop_at c) c.loop-at.at c.loop-at.line ≡ ended_by 0 c.loop-at.line
-ended c = left_end (text_at_After_loop_at c) c.loop-at.line c.loop-at-test.false
+ended : (c : After-loop-at) → left c.args.text.now c.loop-at.at c.loop-at.line ≡ ended_by 0 c.loop-at.line
+ended c = left_end c.args.text.now c.loop-at.line c.loop-at-test.false
 
 pub pass_closing-requires : goal.pass_closing-requires
 pass_closing-requires c = record { small = omega arith; room = λ w. rw c.closing_of.ensures (omega (arith, c.requires w, ap length (unloaded_text _ _ c.in-Err.stop c.in-Err.ensures))) }
@@ -150,7 +104,7 @@ overflow_add-n c = omega (arith, numbers_small (goal.at.overflow_add-n c).After-
 
 pub loop-at-smaller : goal.loop-at-smaller
 loop-at-smaller c =
-    omega (arith, c.loop-at-test.true, read_further (text (goal.at.loop-at-smaller c).At-loop-at) c.loop-at.at c.read_message-group.ensures.value c.if-group-ne0.false)
+    omega (arith, c.loop-at-test.true, read_further c.args.text.now c.loop-at.at c.read_message-group.ensures.value c.if-group-ne0.false)
 
 pub loop-at-preserved : goal.loop-at-preserved
 loop-at-preserved c =

@@ -1,31 +1,18 @@
-use Prim.Native.Nat.{ℕ, ◌≤◌}
-use mathlib.Core.List.{List}
+use Prim.Native.Nat.{◌≤◌}
 use mathlib.Core.Path.{◌≡◌, refl, ◌∙◌}
 use native.Mathlib.Omega.{arith}
 use lib.ListN.{length, take}
 use Rattle.trace.specs.Groups.{topic_in}
-use Rattle.trace.specs.declared.groups.MessageLines.{MessageLines}
 use Rattle.trace.proofs.run.BufferLaws.{topic_part, payload_part}
 use Rattle.trace.proofs.run.RunLaws.{read_further}
 use Rattle.trace.proofs.seen.SeenLaws.{named_stop, named_here, named_further, named_end}
-use Rattle.trace.proofs.seen.find_named.Goals.{At-loop-p, Else-group-ne0}
+use Rattle.trace.proofs.seen.find_named.Goals.{Else-group-ne0}
 use Rattle.trace.proofs.seen.find_named.Goals as goal
-
--- the text, and what was read of it
-abbrev text_at_Else_group_ne0 : (c : Else-group-ne0) → List ℕ
-text_at_Else_group_ne0 c = c.args.text.now
-
--- the text, and what was read of it
-abbrev text : (c : At-loop-p) → List ℕ
-text c = c.args.text.now
-
-abbrev group_at_Else_group_ne0 : (c : Else-group-ne0) → MessageLines
-group_at_Else_group_ne0 c = c.read_message-group.result
 
 -- the message's topic is the first bytes of its buffer, and both buffers are as long as before
 topic_has : (c : Else-group-ne0) → let buffer = c.read_message-group.new.topic in
-    (take (group_at_Else_group_ne0 c).msg.topic_len buffer ≡ topic_in (text_at_Else_group_ne0 c) (group_at_Else_group_ne0 c)) ×
-    ((group_at_Else_group_ne0 c).msg.topic_len ≤ length buffer) × (length buffer ≡ 128)
+    (take c.read_message-group.result.msg.topic_len buffer ≡ topic_in c.args.text.now c.read_message-group.result) ×
+    (c.read_message-group.result.msg.topic_len ≤ length buffer) × (length buffer ≡ 128)
 topic_has c =
     topic_part _ _ _ c.read_message-group.ensures.value c.if-group-ne0.false c.loop-p.invariant.1 c.read_message-group.ensures.topic
 
@@ -57,7 +44,7 @@ returns-then-is_of c = let has = topic_has (goal.at.returns-then-is_of c).Else-g
 
 pub loop-p-smaller : goal.loop-p-smaller
 loop-p-smaller c =
-    omega (arith, c.loop-p-test.true, read_further (text (goal.at.loop-p-smaller c).At-loop-p) c.loop-p.p c.read_message-group.ensures.value c.if-group-ne0.false)
+    omega (arith, c.loop-p-test.true, read_further c.args.text.now c.loop-p.p c.read_message-group.ensures.value c.if-group-ne0.false)
 
 pub loop-p-preserved : goal.loop-p-preserved
 loop-p-preserved c = (
@@ -70,4 +57,4 @@ loop-p-preserved c = (
 )
 
 pub returns : goal.returns
-returns c = record { named = named_end (text (goal.at.returns c).At-loop-p) c.args.held.now c.loop-p-test.false ∙ c.loop-p.invariant.0; short = omega arith; long = c.loop-p.invariant.3 }
+returns c = record { named = named_end c.args.text.now c.args.held.now c.loop-p-test.false ∙ c.loop-p.invariant.0; short = omega arith; long = c.loop-p.invariant.3 }

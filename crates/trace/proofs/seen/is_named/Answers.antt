@@ -1,31 +1,18 @@
-use Prim.Native.Nat.{ℕ, ◌≤◌}
-use mathlib.Core.List.{List}
+use Prim.Native.Nat.{◌≤◌}
 use mathlib.Core.Path.{◌≡◌, refl, ◌∙◌}
 use native.Mathlib.Omega.{arith}
 use lib.ListN.{length, take}
 use Rattle.trace.specs.Groups.{topic_in}
-use Rattle.trace.specs.declared.groups.MessageLines.{MessageLines}
 use Rattle.trace.proofs.run.BufferLaws.{topic_part, payload_part}
 use Rattle.trace.proofs.run.RunLaws.{read_further}
 use Rattle.trace.proofs.seen.SeenLaws.{publish_stop, publish_here, publish_further, publish_end}
-use Rattle.trace.proofs.seen.is_named.Goals.{At-loop-p, Else-group-ne0}
+use Rattle.trace.proofs.seen.is_named.Goals.{Else-group-ne0}
 use Rattle.trace.proofs.seen.is_named.Goals as goal
-
--- the text, and what was read of it
-abbrev text_at_Else_group_ne0 : (c : Else-group-ne0) → List ℕ
-text_at_Else_group_ne0 c = c.args.text.now
-
--- the text, and what was read of it
-abbrev text : (c : At-loop-p) → List ℕ
-text c = c.args.text.now
-
-abbrev group_at_Else_group_ne0 : (c : Else-group-ne0) → MessageLines
-group_at_Else_group_ne0 c = c.read_message-group.result
 
 -- the message's topic is the first bytes of its buffer, and both buffers are as long as before
 name_has : (c : Else-group-ne0) → let buffer = c.read_message-group.new.topic in
-    (take (group_at_Else_group_ne0 c).msg.topic_len buffer ≡ topic_in (text_at_Else_group_ne0 c) (group_at_Else_group_ne0 c)) ×
-    ((group_at_Else_group_ne0 c).msg.topic_len ≤ length buffer) × (length buffer ≡ 128)
+    (take c.read_message-group.result.msg.topic_len buffer ≡ topic_in c.args.text.now c.read_message-group.result) ×
+    (c.read_message-group.result.msg.topic_len ≤ length buffer) × (length buffer ≡ 128)
 name_has c =
     topic_part _ _ _ c.read_message-group.ensures.value c.if-group-ne0.false c.loop-p.invariant.1 c.read_message-group.ensures.topic
 
@@ -50,7 +37,7 @@ returns-then-names c =
 
 pub loop-p-smaller : goal.loop-p-smaller
 loop-p-smaller c =
-    omega (arith, c.loop-p-test.true, read_further (text (goal.at.loop-p-smaller c).At-loop-p) c.loop-p.p c.read_message-group.ensures.value c.if-group-ne0.false)
+    omega (arith, c.loop-p-test.true, read_further c.args.text.now c.loop-p.p c.read_message-group.ensures.value c.if-group-ne0.false)
 
 pub loop-p-preserved : goal.loop-p-preserved
 loop-p-preserved c = (
@@ -61,4 +48,4 @@ loop-p-preserved c = (
 )
 
 pub returns : goal.returns
-returns c = publish_end (text (goal.at.returns c).At-loop-p) c.args.topic.now c.loop-p-test.false ∙ c.loop-p.invariant.0
+returns c = publish_end c.args.text.now c.args.topic.now c.loop-p-test.false ∙ c.loop-p.invariant.0

@@ -1,56 +1,36 @@
-use Prim.Native.Nat.{ℕ, ◌≤◌}
-use mathlib.Core.List.{List}
+use Prim.Native.Nat.{◌≤◌}
 use mathlib.Core.Path.{◌≡◌, ◌∙◌}
 use native.Mathlib.Omega.{arith}
 use lib.ListN.{length, take}
 use Rattle.trace.specs.Groups.{topic_in, payload_in}
 use Rattle.trace.specs.Seen.{first_place}
-use Rattle.trace.specs.declared.groups.MessageLines.{MessageLines}
 use Rattle.trace.proofs.run.BufferLaws.{topic_part, payload_part}
 use Rattle.trace.proofs.run.RunLaws.{left_end, left_stop, read_further}
 use Rattle.trace.proofs.seen.SeenLaws.{first_is, seeing_start, unseen, inspected_state, seeing_turn, seeing_end}
 use Rattle.trace.proofs.seen.see_all.Goals.{After-read_message-group, At-loop-at, Else-group-ne0}
 use Rattle.trace.proofs.seen.see_all.Goals as goal
 
--- the text, and what was read of it
-abbrev text_at_After_read_message_group : (c : After-read_message-group) → List ℕ
-text_at_After_read_message_group c = c.args.text.now
-
--- the text, and what was read of it
-abbrev text_at_Else_group_ne0 : (c : Else-group-ne0) → List ℕ
-text_at_Else_group_ne0 c = c.args.text.now
-
--- the text, and what was read of it
-abbrev text : (c : At-loop-at) → List ℕ
-text c = c.args.text.now
-
-abbrev group_at_Else_group_ne0 : (c : Else-group-ne0) → MessageLines
-group_at_Else_group_ne0 c = c.read_message-group.result
-
-abbrev group : (c : After-read_message-group) → MessageLines
-group c = c.read_message-group.result
-
 -- the place of the first message
-first : (c : At-loop-at) → c.in-Ok.start.next ≡ first_place c.args.matching (text c)
+first : (c : At-loop-at) → c.in-Ok.start.next ≡ first_place c.args.matching c.args.text.now
 first c =
     first_is _ _ c.in-Ok.ensures
 
 -- lines are counted far below the largest number
-numbers_small : (c : After-read_message-group) → (c.loop-at.line ≤ 65666) × ((group c).line ≤ 6)
+numbers_small : (c : After-read_message-group) → (c.loop-at.line ≤ 65666) × (c.read_message-group.result.line ≤ 6)
 numbers_small c =
     let seeing = c.loop-at.invariant.0 in
     (omega (arith, seeing.lines, seeing.short, c.loop-at-test.true), c.read_message-group.ensures.within.line)
 
 -- the message's topic and payload are the first bytes of their buffers
 topic_has : (c : Else-group-ne0) → let buffer = c.read_message-group.new.topic in
-    (take (group_at_Else_group_ne0 c).msg.topic_len buffer ≡ topic_in (text_at_Else_group_ne0 c) (group_at_Else_group_ne0 c)) ×
-    ((group_at_Else_group_ne0 c).msg.topic_len ≤ length buffer) × (length buffer ≡ 128)
+    (take c.read_message-group.result.msg.topic_len buffer ≡ topic_in c.args.text.now c.read_message-group.result) ×
+    (c.read_message-group.result.msg.topic_len ≤ length buffer) × (length buffer ≡ 128)
 topic_has c =
     topic_part _ _ _ c.read_message-group.ensures.value c.if-group-ne0.false c.loop-at.invariant.1 c.read_message-group.ensures.topic
 
 payload_has : (c : Else-group-ne0) → let buffer = c.read_message-group.new.payload in
-    (take (group_at_Else_group_ne0 c).msg.payload_inspectable_len buffer ≡ payload_in (text_at_Else_group_ne0 c) (group_at_Else_group_ne0 c))
-    × ((group_at_Else_group_ne0 c).msg.payload_inspectable_len ≤ length buffer) × (length buffer ≡ 256)
+    (take c.read_message-group.result.msg.payload_inspectable_len buffer ≡ payload_in c.args.text.now c.read_message-group.result)
+    × (c.read_message-group.result.msg.payload_inspectable_len ≤ length buffer) × (length buffer ≡ 256)
 payload_has c =
     payload_part _ _ _ c.read_message-group.ensures.value c.if-group-ne0.false c.loop-at.invariant.2 c.read_message-group.ensures.payload
 
@@ -85,7 +65,7 @@ overflow_add-line c = omega (arith, numbers_small (goal.at.overflow_add-line c).
 
 pub loop-at-smaller : goal.loop-at-smaller
 loop-at-smaller c =
-    omega (arith, c.loop-at-test.true, read_further (text (goal.at.loop-at-smaller c).At-loop-at) c.loop-at.at c.read_message-group.ensures.value c.if-group-ne0.false)
+    omega (arith, c.loop-at-test.true, read_further c.args.text.now c.loop-at.at c.read_message-group.ensures.value c.if-group-ne0.false)
 
 pub loop-at-preserved : goal.loop-at-preserved
 loop-at-preserved c = (
@@ -100,4 +80,4 @@ loop-at-preserved c = (
 -- at the text's end none is left
 pub returns : goal.returns
 returns c =
-    seeing_end c.loop-at.invariant.0 (left_end (text (goal.at.returns c).At-loop-at) c.loop-at.line c.loop-at-test.false) (first (goal.at.returns c).At-loop-at)
+    seeing_end c.loop-at.invariant.0 (left_end c.args.text.now c.loop-at.line c.loop-at-test.false) (first (goal.at.returns c).At-loop-at)

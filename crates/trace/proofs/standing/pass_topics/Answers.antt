@@ -10,39 +10,24 @@ use Rattle.laws.proofs.Cases.{by}
 use Rattle.trace.specs.Groups.{topic_in}
 use Rattle.trace.specs.Seen.{sent_from}
 use Rattle.trace.specs.Standing.{message_text, topics_text}
-use Rattle.trace.specs.declared.groups.MessageLines.{MessageLines}
 use Rattle.trace.proofs.run.BufferLaws.{topic_part, payload_part}
 use Rattle.trace.proofs.run.RunLaws.{read_further}
 use Rattle.trace.proofs.standing.PassLaws.{passing_start, passing_room, passing_turn, passing_done, passing_bytes, topics_turn, topics_stop, topics_end}
-use Rattle.trace.proofs.standing.pass_topics.Goals.{After-read_message-group, At-loop-q, Else-group-ne0}
+use Rattle.trace.proofs.standing.pass_topics.Goals.{At-loop-q, Else-group-ne0}
 use Rattle.trace.proofs.standing.pass_topics.Goals as goal
-
--- the text, and what was read of it
-abbrev text_at_Else_group_ne0 : (c : Else-group-ne0) → List ℕ
-text_at_Else_group_ne0 c = c.args.text.now
-
--- the text, and what was read of it
-abbrev text : (c : At-loop-q) → List ℕ
-text c = c.args.text.now
-
-abbrev group_at_Else_group_ne0 : (c : Else-group-ne0) → MessageLines
-group_at_Else_group_ne0 c = c.read_message-group.result
-
-abbrev group : (c : After-read_message-group) → MessageLines
-group c = c.read_message-group.result
 
 -- the place is far below the largest number
 small : (c : At-loop-q) → c.loop-q.p ≤ c.args.at + 729900
 small c =
     let given = c.args in
-    by (ltb given.first (length (text c)))
-    (λ e. omega (arith, c.loop-q.invariant.1, c.loop-q.invariant.2, c.loop-q.invariant.3, c.requires.short (ltb-true given.first (length (text c)) e)))
-    (λ e. omega (arith, c.loop-q.invariant.1, c.loop-q.invariant.2, c.loop-q.invariant.3, ltb-false given.first (length (text c)) e))
+    by (ltb given.first (length c.args.text.now))
+    (λ e. omega (arith, c.loop-q.invariant.1, c.loop-q.invariant.2, c.loop-q.invariant.3, c.requires.short (ltb-true given.first (length c.args.text.now) e)))
+    (λ e. omega (arith, c.loop-q.invariant.1, c.loop-q.invariant.2, c.loop-q.invariant.3, ltb-false given.first (length c.args.text.now) e))
 
 -- the message's topic is the first bytes of its buffer, and both buffers are as long as before
 topic_has : (c : Else-group-ne0) → let buffer = c.read_message-group.new.topic in
-    (take (group_at_Else_group_ne0 c).msg.topic_len buffer ≡ topic_in (text_at_Else_group_ne0 c) (group_at_Else_group_ne0 c)) ×
-    ((group_at_Else_group_ne0 c).msg.topic_len ≤ length buffer) × (length buffer ≡ 128)
+    (take c.read_message-group.result.msg.topic_len buffer ≡ topic_in c.args.text.now c.read_message-group.result) ×
+    (c.read_message-group.result.msg.topic_len ≤ length buffer) × (length buffer ≡ 128)
 topic_has c =
     topic_part _ _ _ c.read_message-group.ensures.value c.if-group-ne0.false c.loop-q.invariant.4 c.read_message-group.ensures.topic
 
@@ -54,19 +39,19 @@ payload_long c =
 abbrev part : (c : Else-group-ne0) → List ℕ
 part c =
     let given = c.args in
-    message_text given.m.now given.last (group_at_Else_group_ne0 c).msg.packet_type (take (group_at_Else_group_ne0 c).msg.topic_len c.read_message-group.new.topic)
-    (sent_from (text_at_Else_group_ne0 c) (group_at_Else_group_ne0 c).next)
+    message_text given.m.now given.last c.read_message-group.result.msg.packet_type (take c.read_message-group.result.msg.topic_len c.read_message-group.new.topic)
+    (sent_from c.args.text.now c.read_message-group.result.next)
 
 abbrev further : (c : Else-group-ne0) → List ℕ
 further c =
     let given = c.args in
-    topics_text given.m.now given.last (sent_from (text_at_Else_group_ne0 c) (group_at_Else_group_ne0 c).next)
+    topics_text given.m.now given.last (sent_from c.args.text.now c.read_message-group.result.next)
 
 here : (c : Else-group-ne0) → let given = c.args in
-    topics_text given.m.now given.last (sent_from (text_at_Else_group_ne0 c) c.loop-q.q) ≡ part c ++ further c
+    topics_text given.m.now given.last (sent_from c.args.text.now c.loop-q.q) ≡ part c ++ further c
 here c =
     let given = c.args in
-    topics_turn given.m.now given.last (text_at_Else_group_ne0 c) c.loop-q-test.true c.read_message-group.ensures.value c.if-group-ne0.false (topic_has c).0
+    topics_turn given.m.now given.last c.args.text.now c.loop-q-test.true c.read_message-group.ensures.value c.if-group-ne0.false (topic_has c).0
 
 pub loop-q-init : goal.loop-q-init
 loop-q-init c = (passing_start _ _ _ _, omega arith, omega arith, omega arith, c.buffer_128-topic.ensures, c.buffer_256-payload.ensures)
@@ -76,7 +61,7 @@ shape_of-out-then-group-ne0 c = c.loop-q.invariant.0.long
 
 pub returns-then-group-ne0 : goal.returns-then-group-ne0
 returns-then-group-ne0 c = let given = c.args in
-    let none = topics_stop given.m.now given.last (text (goal.at.returns-then-group-ne0 c).At-loop-q) c.loop-q-test.true
+    let none = topics_stop given.m.now given.last c.args.text.now c.loop-q-test.true
     c.read_message-group.ensures.value c.if-group-ne0.true in
     record
     { next = (passing_done c.loop-q.invariant.0 none, small (goal.at.returns-then-group-ne0 c).At-loop-q); bytes = passing_bytes c.loop-q.invariant.0 none }
@@ -90,7 +75,7 @@ pass_message-p-requires c = record {
   short = omega (
     arith,
     ap length c.topic.ensures,
-    length-take-le (group (goal.at.pass_message-p-requires c).After-read_message-group).msg.topic_len c.read_message-group.new.topic
+    length-take-le c.read_message-group.result.msg.topic_len c.read_message-group.new.topic
         (topic_has (goal.at.pass_message-p-requires c).Else-group-ne0).1,
     (topic_has (goal.at.pass_message-p-requires c).Else-group-ne0).1,
     (topic_has (goal.at.pass_message-p-requires c).Else-group-ne0).2,
@@ -101,11 +86,11 @@ pass_message-p-requires c = record {
 
 pub loop-q-smaller : goal.loop-q-smaller
 loop-q-smaller c =
-    omega (arith, c.loop-q-test.true, read_further (text (goal.at.loop-q-smaller c).At-loop-q) c.loop-q.q c.read_message-group.ensures.value c.if-group-ne0.false)
+    omega (arith, c.loop-q-test.true, read_further c.args.text.now c.loop-q.q c.read_message-group.ensures.value c.if-group-ne0.false)
 
 pub loop-q-preserved : goal.loop-q-preserved
 loop-q-preserved c =
-    let f = read_further (text (goal.at.loop-q-preserved c).At-loop-q) c.loop-q.q c.read_message-group.ensures.value c.if-group-ne0.false in
+    let f = read_further c.args.text.now c.loop-q.q c.read_message-group.ensures.value c.if-group-ne0.false in
     let e = rw c.topic.ensures at c.pass_message-p.ensures in (
       passing_turn c.loop-q.invariant.0 (part (goal.at.loop-q-preserved c).Else-group-ne0) (further (goal.at.loop-q-preserved c).Else-group-ne0)
           (here (goal.at.loop-q-preserved c).Else-group-ne0) c.requires.room e.next.0 e.bytes,
@@ -120,5 +105,5 @@ pub shape_of-out : goal.shape_of-out
 shape_of-out c = c.loop-q.invariant.0.long
 
 pub returns : goal.returns
-returns c = let given = c.args in let none = topics_end given.m.now given.last (text (goal.at.returns c).At-loop-q) c.loop-q-test.false in
+returns c = let given = c.args in let none = topics_end given.m.now given.last c.args.text.now c.loop-q-test.false in
     record { next = (passing_done c.loop-q.invariant.0 none, small (goal.at.returns c).At-loop-q); bytes = passing_bytes c.loop-q.invariant.0 none }
