@@ -3,10 +3,9 @@
 -- Assumes nothing.
 use Rattle.std.specs.Prelude.{cond, ◌||◌, List, ℕ, eqb, length}
 use Rattle.forms.specs.Form.{Took, took, stopped}
-use Rattle.settings.specs.Loaded.{monitor_of, written_of, text_kept}
+use Rattle.settings.specs.Loaded.{monitor_of, written_of, text_kept, Written}
 use Rattle.settings.specs.SettingsText.{Settings, settings_of}
 use Rattle.settings.specs.declared.convert.SettingsEnd.{SettingsEnd}
-use Rattle.settings.specs.declared.write.Written.{Written}
 
 -- the form that is meant
 abbrev pub form_meant : ℕ → ℕ → ℕ

@@ -21,9 +21,8 @@ use Rattle.rules_text.specs.RuleGroup.{rule_at, pattern_in}
 use Rattle.rules_text.specs.RuleText.{RuleText, rule_from, given_in, rule_refusal, rule_form}
 use Rattle.rules_text.specs.declared.read.RuleLines.{RuleLines}
 use Rattle.rules_text.proofs.RuleTook.{values_in, rule_read, rule_unread}
-use Rattle.settings.specs.Kept.{rules_read, rules_stopped}
+use Rattle.settings.specs.Kept.{rules_read, rules_stopped, RulesLines}
 use Rattle.settings.specs.Loaded.{table_of}
-use Rattle.settings.specs.declared.rules.RulesLines.{RulesLines}
 use Rattle.settings.proofs.rules.TableLaws.{Brief, brief_none, brief_join, held_given, table_more}
 
 -- what is read of rules after others, with those before them

@@ -16,9 +16,8 @@ use Rattle.rules_text.specs.RuleText.{rule_form, rule_in}
 use Rattle.monitor.specs.State.{well_formed}
 use Rattle.monitor.specs.declared.state.MqttMonitor.{MqttMonitor}
 use Rattle.monitor.proofs.state.FormedLaws.{formed_parts}
-use Rattle.settings.specs.Loaded.{settings_text, text_refusal, unwritten, length_of, fitted, written_of, text_kept}
+use Rattle.settings.specs.Loaded.{settings_text, text_refusal, unwritten, length_of, fitted, written_of, text_kept, Written}
 use Rattle.settings.specs.SettingsText.{form_refusal, Head, head_lines, settings_lines, settings_form}
-use Rattle.settings.specs.declared.write.Written.{Written}
 
 module _ (form : ℕ) (m : MqttMonitor) where
   -- the values of the lines before the rules, and the text of the rules, as the code asks for them
