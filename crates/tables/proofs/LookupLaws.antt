@@ -16,15 +16,6 @@ module _ {A D : Type 0} (p : A → Bool) (l : List A) (none : A) (f : ℕ → A 
   abbrev pub held_or_new : D
   held_or_new = cond (ltb (find p l) (length l)) (f (find p l) (get_or l (find p l) none)) (f s w)
 
-  -- the search ended at a record
-  pub held : {i : ℕ} {r : D} → i ≡ find p l → i < length l → r ≡ f i (get_or l i none) → r ≡ held_or_new
-  held e h k = let lt : find p l < length l = omega arith in rw (lt-ltb _ _ lt, ← e) k
-
-  -- it ended at the table's end
-  pub new : {i j : ℕ} {x : A} {r : D} → i ≡ find p l → length l ≤ i → j ≡ s → x ≡ w → r ≡ f j x → r ≡ held_or_new
-  new {i} {j} {x} e h es ew k =
-      let le : length l ≤ find p l = omega arith in rw (le-ltb _ _ le) (k ∙ ap (λ (n : ℕ). f n x) es ∙ ap (f s) ew)
-
   -- what is true of `f` at a place that passes, and of the newcomer where none passes, is true of the answer
   pub looked_up : (P : D → Type 0) → ((i : ℕ) → i < length l → p (get_or l i none) ≡ true → P (f i (get_or l i none)))
       → (((j : ℕ) → j < length l → p (get_or l j none) ≡ false) → P (f s w)) → P held_or_new

@@ -18,7 +18,7 @@ use Rattle.tables.specs.declared.rules.MqttQoS.TheVariants.{AtLeastOnce}
 use Rattle.tables.specs.declared.rules.QosPolicy.TheVariants.{MinQoS}
 use Rattle.tables.specs.declared.rules.TopicAction.TheVariants.{Allow, Block}
 use Rattle.tables.specs.declared.rules.TopicRule.{TopicRule}
-use Rattle.tables.specs.declared.rules.RulePlan.{RulePlan}
+use Rattle.tables.specs.Rules.{RulePlan}
 use Rattle.monitor.specs.Alerts.{counted}
 use Rattle.monitor.specs.Calls.{fresh}
 use Rattle.monitor.specs.Inspect.{applied}

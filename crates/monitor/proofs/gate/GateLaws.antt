@@ -6,11 +6,13 @@ use Prim.Native.Nat.{ℕ, ◌<◌, ◌≤◌, min}
 use native.Mathlib.Omega.{arith}
 use borrow.Author.Tests.{le-ltb, lt-ltb}
 use lib.Dec.{eqb}
-use lib.ListN.{length, get_or}
+use lib.ListN.{length, get_or, take, length-take}
 use Rattle.laws.specs.Lists.{none}
 use Rattle.laws.proofs.Tests.{both}
 use Rattle.topics.specs.Names.{is_broad, starts_with_dollar, bad_publish}
-use Rattle.tables.specs.Rules.{first_rule, no_rule}
+use Rattle.tables.specs.Rules.{first_rule, no_rule, pattern_of}
+use Rattle.tables.specs.Scan.{find}
+use Rattle.tables.proofs.ScanLaws.{find-le}
 use Rattle.tables.specs.declared.rules.TopicAction.{TopicAction}
 use Rattle.tables.specs.declared.rules.TopicRule.{TopicRule}
 use Rattle.monitor.specs.declared.gate.Gate.{Gate}
@@ -30,13 +32,18 @@ none_not (b ∷ t) n = refl
 
 -- the ruling, from the place that the search found
 module _ (matcher : List ℕ → List ℕ → Bool) (rules : List TopicRule) (n : ℕ) (default : TopicAction) (topic : List ℕ) {at : ℕ} (found : at ≡ first_rule matcher topic rules n) where
-  pub ruled_none : {r : Ruling} → min n 32 ≤ at → r ≡ ruled_by_default default at → r ≡ ruling_of matcher rules n default topic
-  unfolding ruling_of
-  ruled_none h e = rw (← found, le-ltb _ _ h) e
-
   pub ruled_here : {r : Ruling} → at < min n 32 → r ≡ ruled_by (get_or rules at no_rule) at → r ≡ ruling_of matcher rules n default topic
   unfolding ruling_of
   ruled_here h e = rw (← found, lt-ltb _ _ h) e
+
+-- and where it found none: it ends where the rules do
+pub ruled_none : (matcher : List ℕ → List ℕ → Bool) (rules : List TopicRule) (n : ℕ) (default : TopicAction) (topic : List ℕ) {r : Ruling} → length rules ≡ 32
+    → min n 32 ≤ first_rule matcher topic rules n → r ≡ ruled_by_default default (min n 32) → r ≡ ruling_of matcher rules n default topic
+unfolding ruling_of first_rule
+ruled_none matcher rules n default topic full none e =
+    let p : TopicRule → Bool = λ x. x.active && matcher topic (pattern_of x) in
+    let end : find p (take n rules) ≡ min n 32 = omega (arith, none, find-le p (take n rules), length-take n rules, full) in
+    rw (le-ltb _ _ none, end) e
 
 -- after rule choice, for a type's number, whether it is a Subscribe to one of the three broad topics, and whether it is one to a dollar topic with no
 -- matching Allow rule

@@ -15,11 +15,10 @@ use Rattle.monitor.specs.Inspect.{stored_at, applied, result_of, inspect_refusal
 use Rattle.monitor.specs.Message.{used_topic, used_payload}
 use Rattle.monitor.specs.Plan.{plan_of}
 use Rattle.monitor.specs.State.{well_formed, with_tables, with_counters}
-use Rattle.monitor.specs.declared.inspection.Inspected.{Inspected}
+use Rattle.monitor.specs.Ended.{Inspected, Done}
 use Rattle.monitor.specs.declared.message.MqttMessage.{MqttMessage}
 use Rattle.monitor.specs.declared.plan.Plan.{Plan}
 use Rattle.monitor.specs.declared.state.MqttMonitor.{MqttMonitor}
-use Rattle.monitor.specs.declared.state.Outcome.TheVariants.{Done}
 
 -- a state that holds a table, after the test whether the place is in it
 module _ {A : Type 0} (f : List A → MqttMonitor) (n : ℕ) (l : List A) (at : ℕ) (x : A) {next : MqttMonitor} where

@@ -9,11 +9,11 @@ use Rattle.laws.proofs.Cases.{by}
 use Rattle.tables.specs.Rules.{rule_plan}
 use Rattle.tables.specs.declared.rules.QosPolicy.{QosPolicy}
 use Rattle.tables.specs.declared.rules.TopicAction.{TopicAction}
-use Rattle.tables.specs.declared.rules.RulePlan.{RulePlan}
+use Rattle.tables.specs.Rules.{RulePlan}
 use Rattle.monitor.specs.Calls.{with_rule, shadows_in, add_rule}
 use Rattle.monitor.specs.State.{well_formed, number_of}
 use Rattle.monitor.specs.declared.state.MqttMonitor.{MqttMonitor}
-use Rattle.monitor.specs.declared.state.Outcome.TheVariants.{Done, Refused}
+use Rattle.monitor.specs.Ended.{Done, Refused}
 use Rattle.monitor.proofs.state.EndedLaws.{ended_by, ended_done}
 
 module _ (m : MqttMonitor) (p : List ℕ) (action : TopicAction) (policy : QosPolicy) (rate : ℕ) {plan : RulePlan} (e : plan ≡ rule_plan m.rules m.rule_count p action policy rate) where

@@ -14,7 +14,7 @@ use Rattle.tables.specs.Windows.{window_fine}
 use Rattle.monitor.specs.Calls.{tested}
 use Rattle.monitor.specs.State.{well_formed, ended}
 use Rattle.monitor.specs.declared.state.MqttMonitor.{MqttMonitor}
-use Rattle.monitor.specs.declared.state.Outcome.TheVariants.{Done, Refused}
+use Rattle.monitor.specs.Ended.{Done, Refused}
 
 -- a state that passes the test has at most 32 rules
 formed_count : (m : MqttMonitor) → well_formed m ≡ true → m.rule_count ≤ 32

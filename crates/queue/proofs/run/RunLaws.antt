@@ -22,7 +22,7 @@ use Rattle.monitor.specs.Plan.{gate_in, plan_of}
 use Rattle.monitor.specs.Runs.{Call, Exact, shipped, after_by, replies_by}
 use Rattle.monitor.specs.State.{well_formed, matcher_of}
 use Rattle.monitor.specs.declared.gate.Gate.{Gate}
-use Rattle.monitor.specs.declared.inspection.Inspected.{Inspected}
+use Rattle.monitor.specs.Ended.{Inspected}
 use Rattle.monitor.specs.declared.message.MqttMessage.{MqttMessage}
 use Rattle.monitor.specs.declared.plan.Plan.{Plan}
 use Rattle.monitor.specs.declared.state.MqttMonitor.{MqttMonitor}

@@ -1,7 +1,7 @@
--- The ways through `plan_rule`: the pattern's own number, an equal pattern, a full table, a new rule; and that a rule that is taken has a place. Assumes nothing.
+-- The ways through `plan_rule`: the pattern's own number, an equal pattern, a full table, a new rule; and that a rule that is taken has a place; last, that a plan tells the whole answer. Assumes nothing.
 use mathlib.Core.Bool.{Bool, true, false}
 use mathlib.Core.List.{List}
-use mathlib.Core.Path.{◌≡◌, sym, ◌∙◌}
+use mathlib.Core.Path.{◌≡◌, refl, sym, ap, ◌∙◌}
 use Prim.Native.Nat.{ℕ, ◌+◌, ◌≤◌, ◌<◌, min}
 use native.Mathlib.Omega.{arith}
 use borrow.Author.Tests.{lt-ltb, le-ltb, ltb-true, ltb-false, eq-eqb, ne_eqb, eqb-true, eqb-false}
@@ -13,8 +13,12 @@ use Rattle.tables.specs.Rules.{equal_rule, no_rule}
 use Rattle.tables.specs.declared.rules.QosPolicy.{QosPolicy}
 use Rattle.tables.specs.declared.rules.TopicAction.{TopicAction}
 use Rattle.tables.specs.declared.rules.TopicRule.{TopicRule}
-use Rattle.tables.specs.Rules.{rule_of, overwritten, is_held, not_taken, rule_plan}
-use Rattle.tables.specs.declared.rules.RulePlan.{RulePlan}
+use Rattle.std.specs.Prelude.{Result, Ok, Err}
+use Rattle.tables.specs.Rules.{rule_of, overwritten, is_held, not_taken, rule_plan, rule_number, told_plan}
+use Rattle.tables.specs.declared.rules.Placement.{Placement}
+use Rattle.tables.specs.declared.rules.RuleRefusal.{RuleRefusal}
+use Rattle.tables.specs.declared.rules.RuleRefusal.TheVariants.{TableFull, BadPattern, NotUtf8}
+use Rattle.tables.specs.Rules.{RulePlan}
 
 -- whether a place counts: from 32 on none does, below it those below the count
 pub from_32 : (at n : ℕ) → 32 ≤ at → false ≡ ltb at (min n 32)
@@ -81,3 +85,30 @@ module _ (rules : List TopicRule) (n : ℕ) (p : List ℕ) (action : TopicAction
   -- a rule that is taken has a place
   pub plan_place : {plan : RulePlan} → plan ≡ rule_plan rules n p action policy rate → plan.number ≡ 0 → plan.at < 32
   plan_place e z = rw e (place (rw e at z))
+
+-- an answer is told by its plan
+rule_once : (e f : RuleRefusal) → rule_number e ≡ rule_number f → e ≡ f
+rule_once TableFull TableFull p = refl
+rule_once TableFull BadPattern p = absurd (omega (arith, p))
+rule_once TableFull NotUtf8 p = absurd (omega (arith, p))
+rule_once BadPattern TableFull p = absurd (omega (arith, p))
+rule_once BadPattern BadPattern p = refl
+rule_once BadPattern NotUtf8 p = absurd (omega (arith, p))
+rule_once NotUtf8 TableFull p = absurd (omega (arith, p))
+rule_once NotUtf8 BadPattern p = absurd (omega (arith, p))
+rule_once NotUtf8 NotUtf8 p = refl
+
+rule_real : (e : RuleRefusal) → 1 ≤ rule_number e
+rule_real TableFull = omega arith
+rule_real BadPattern = omega arith
+rule_real NotUtf8 = omega arith
+
+pub told_once : (n : ℕ) (r s : Result Placement RuleRefusal) → told_plan n r ≡ told_plan n s → r ≡ s
+told_once n (Ok p) (Ok q) e =
+    let at : p.at ≡ q.at = ap (λ (d : RulePlan). d.at) e in
+    let rule : p.rule ≡ q.rule = ap (λ (d : RulePlan). d.rule) e in
+    let count : p.count ≡ q.count = ap (λ (d : RulePlan). d.count) e in
+    rw (at, rule, count)
+told_once n (Ok p) (Err f) e = let k = ap (λ (d : RulePlan). d.number) e in absurd (omega (arith, k, rule_real f))
+told_once n (Err d) (Ok q) e = let k = ap (λ (d : RulePlan). d.number) e in absurd (omega (arith, k, rule_real d))
+told_once n (Err d) (Err f) e = ap Err (rule_once d f (ap (λ (d : RulePlan). d.number) e))

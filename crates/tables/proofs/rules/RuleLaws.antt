@@ -26,19 +26,6 @@ module _ (r : TopicRule) where
   lent {n} h e =
       let m : n ≡ min r.pattern_len (length r.pattern) = omega arith in rw m (sym (take-min r.pattern_len r.pattern))
 
-  -- the ways through `rule_fine`: a rule that is not live, one with a pattern too long, and one whose pattern is asked
-  pub fine_dead : not r.active ≡ true → false ≡ rule_fine r
-  unfolding rule_fine
-  fine_dead e = let d : r.active ≡ false = not-true _ e in rw d
-
-  pub fine_long : not r.active ≡ false → 64 < r.pattern_len → false ≡ rule_fine r
-  unfolding rule_fine
-  fine_long e l = let a : r.active ≡ true = not-false _ e in rw (a, lt-leb _ _ l)
-
-  pub fine_asked : {x : ℕ} → not r.active ≡ false → r.pattern_len ≤ 64 → x ≡ pattern_refusal (pattern_of r) → eqb x 0 ≡ rule_fine r
-  unfolding rule_fine
-  fine_asked e l x = let a : r.active ≡ true = not-false _ e in rw (a, le-leb _ _ l, x)
-
   -- a fine rule is live, its pattern fits, and `add_rule` takes it
   pub fine_says : rule_fine r ≡ true → (r.active ≡ true) × (r.pattern_len ≤ 64) × (pattern_refusal (pattern_of r) ≡ 0)
   unfolding rule_fine
