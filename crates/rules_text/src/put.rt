@@ -11,10 +11,9 @@ use tables::rules::{TopicRule, action_number, policy_number, used};
 pub fn put_rule(out: &mut [u8], at: usize, rule: &TopicRule) -> usize
     ensures { Wrote out.old out.new at (rule_text rule.now) result }
 {
-    let n = used(rule.pattern_len);
     let action = usize::from(action_number(rule.action));
     let policy = usize::from(policy_number(rule.qos_policy));
-    let a = put_hex_line(out, at, b"pattern=", &rule.pattern[..n]);
+    let a = put_hex_line(out, at, b"pattern=", rule.pattern());
     let b = put_word_line(out, a, b"action=", b"allow|block", action);
     let c = put_word_line(
         out,

@@ -17,11 +17,12 @@ use Rattle.settings.specs.declared.load.Loaded.{Loaded}
 use Rattle.settings.specs.declared.read.SettingsFound.{SettingsFound}
 use Rattle.settings.specs.declared.refusal.Refused.{Refused}
 use Rattle.settings.specs.declared.refusal.SettingsRefusal.{SettingsRefusal}
-use Rattle.settings.specs.declared.refusal.SettingsRefusal.TheVariants.{BadPattern, BadState, WrongKey, BadNumber, UnknownWord, BadHex, LongHex, NoLineEnd, LongText, NoRoom, UnknownForm, GivenTwice, NotUtf8, NoWord}
+use Rattle.settings.specs.declared.refusal.SettingsRefusal.TheVariants.{TableFull, BadPattern, BadState, WrongKey, BadNumber, UnknownWord, BadHex, LongHex, NoLineEnd, LongText, NoRoom, UnknownForm, GivenTwice, NotUtf8, NoWord}
 use Rattle.settings.specs.declared.rules.RulesFound.{RulesFound}
 
 -- the number of a refusal
 abbrev pub refusal_number : SettingsRefusal → ℕ
+refusal_number TableFull = 6
 refusal_number BadPattern = 9
 refusal_number BadState = 10
 refusal_number WrongKey = 21
@@ -40,11 +41,8 @@ refusal_number NoWord = 37
 -- the refusal of a line, by its number
 unfoldable pub refusal_at : ℕ → SettingsRefusal
 refusal_at n =
-    cond (eqb n 9) BadPattern
-    (cond (eqb n 21) WrongKey
-    (cond (eqb n 22) BadNumber
-    (cond (eqb n 23) UnknownWord
-    (cond (eqb n 24) BadHex (cond (eqb n 25) LongHex (cond (eqb n 26) NoLineEnd (cond (eqb n 29) UnknownForm NotUtf8)))))))
+    cond (eqb n 21) WrongKey
+    (cond (eqb n 22) BadNumber (cond (eqb n 23) UnknownWord (cond (eqb n 24) BadHex (cond (eqb n 25) LongHex (cond (eqb n 26) NoLineEnd UnknownForm)))))
 
 -- a line that was read, whose number is 0, or a refusal at it
 abbrev pub line_checked : ℕ → ℕ → Result Unit Refused
@@ -81,10 +79,10 @@ head_in form m =
       rules = m.rule_count;
     }
 
--- the rules
-abbrev pub rules_told : Result RulesFound Refused → RulesLines
-rules_told (Ok f) = record { number = 0; line = f.line; next = f.next; rule_count = f.rule_count; rules = f.rules }
-rules_told (Err e) = rules_stopped (refusal_number e.refusal) e.line
+-- so many rules
+abbrev pub rules_told : ℕ → Result RulesFound Refused → RulesLines
+rules_told count (Ok f) = record { number = 0; line = f.line; next = f.next; rule_count = count; rules = f.rules }
+rules_told count (Err e) = rules_stopped (refusal_number e.refusal) e.line
 
 -- a whole text
 abbrev pub found_told : SettingsFound → SettingsRead

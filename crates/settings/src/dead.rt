@@ -19,7 +19,7 @@ fn put_dead_rules(out: &mut [u8], found: &SettingsFound) -> usize
 {
     let after_closing = put_closing(out, 0, 0, found.line);
     let covers = cover_report(
-        found.rules,
+        &found.rules,
         usize::from(found.values.rules),
         found.values.matching,
     );
@@ -61,8 +61,8 @@ fn put_pair(out: &mut [u8], found: &SettingsFound, later: u64, earlier: u64) -> 
     ensures short { length (pair_of later earlier (found_told found.now)) ≤ 16384 }
 {
     let witness = rule_witness(
-        found.rules[later as usize - 1],
-        found.rules[earlier as usize - 1],
+        &found.rules[later as usize - 1],
+        &found.rules[earlier as usize - 1],
         found.values.matching,
     );
     put_between(out, 0, later, earlier, &witness)

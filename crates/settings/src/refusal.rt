@@ -1,10 +1,15 @@
 // Why a settings text is not read, and why settings are not written.
 ghost use Rattle.std.specs.Prelude.{◌≡◌};
+ghost use Rattle.tables.specs.Rules.{rule_number};
 ghost use Rattle.settings.specs.Refused.{refusal_number, refusal_at, line_checked};
+
+use tables::rules::RuleRefusal;
 
 /// Why a settings text is not read, or why settings are not written.
 #[derive(Clone, Copy, Debug, PartialEq, Eq)]
 pub enum SettingsRefusal {
+    /// The table of rules is full, which it never is here: a text has at most 32 rules.
+    TableFull = 6,
     /// A rule's pattern is not one that a rule may have.
     BadPattern = 9,
     /// A monitor that no call hands out.
@@ -46,6 +51,18 @@ impl SettingsRefusal {
     }
 }
 
+impl From<RuleRefusal> for SettingsRefusal {
+    ghost from_gives = { λ rule settings. refusal_number settings ≡ rule_number rule };
+
+    fn from(refusal: RuleRefusal) -> SettingsRefusal {
+        match refusal {
+            RuleRefusal::TableFull => SettingsRefusal::TableFull,
+            RuleRefusal::BadPattern => SettingsRefusal::BadPattern,
+            RuleRefusal::NotUtf8 => SettingsRefusal::NotUtf8,
+        }
+    }
+}
+
 /// What refuses a settings text, and at which line, counted from 1; 0 is no line of the text.
 #[derive(Clone, Copy, Debug, PartialEq, Eq)]
 pub struct Refused {
@@ -54,20 +71,18 @@ pub struct Refused {
 }
 
 #[tactic(auto, unfolding(crate::specs::Refused::refusal_at))]
-// The refusal of a line that `lines` refused by a number.
+// The refusal of a line that was refused by a number: `lines` gives 21 to 26, and the form's line 29.
 fn refusal_at(number: u32) -> SettingsRefusal
     ensures { result ≡ refusal_at number }
 {
     match number {
-        9 => SettingsRefusal::BadPattern,
         21 => SettingsRefusal::WrongKey,
         22 => SettingsRefusal::BadNumber,
         23 => SettingsRefusal::UnknownWord,
         24 => SettingsRefusal::BadHex,
         25 => SettingsRefusal::LongHex,
         26 => SettingsRefusal::NoLineEnd,
-        29 => SettingsRefusal::UnknownForm,
-        _ => SettingsRefusal::NotUtf8,
+        _ => SettingsRefusal::UnknownForm,
     }
 }
 

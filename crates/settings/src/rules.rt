@@ -1,5 +1,5 @@
 // The rules of a settings text, read into a table and written from one.
-ghost use Rattle.std.specs.Prelude.{◌≡◌, [], map, ◌*◌, ◌≤◌, length};
+ghost use Rattle.std.specs.Prelude.{◌≡◌, [], map, ◌*◌, ◌≤◌, length, take};
 ghost use Rattle.lines.specs.Wrote.{Wrote};
 ghost use Rattle.forms.specs.Form.{read_all, text_all};
 ghost use Rattle.rules_text.specs.RuleText.{rule_form, rule_in};
@@ -17,7 +17,6 @@ use tables::rules::{RULES, TopicRule, plan_rule};
 pub(crate) struct RulesFound {
     pub line: u64,
     pub next: usize,
-    pub rule_count: u16,
     pub rules: [TopicRule; RULES],
 }
 
@@ -37,10 +36,9 @@ pub(crate) fn read_rules(
 ) -> Result<RulesFound, Refused>
     requires few { count ≤ 32 }
     requires short { lines ≤ 1000 }
-    ensures { rules_told result ≡ rules_read (read_all rule_form count [] text.now from lines) }
+    ensures { rules_told count result ≡ rules_read (read_all rule_form count [] text.now from lines) }
 {
     let mut rules = free_rules();
-    let mut rule_count: u16 = 0;
     let mut pattern = pattern_buffer();
     let mut at = from;
     for taken in 0..count {
@@ -49,31 +47,46 @@ pub(crate) fn read_rules(
         let rule = read_rule(text, at, &mut pattern);
         check_line(rule.number, line + 1 + u64::from(rule.line))?;
         let n = (rule.pattern_to - rule.pattern_from) / 2;
-        let plan = plan_rule(
-            rules,
-            rule_count,
+        let planned = plan_rule(
+            &rules,
+            taken,
             &pattern[..n],
             rule.action,
             rule.qos_policy,
             rule.rate,
         );
-        check_line(plan.number, last)?;
-        if plan.at < usize::from(rule_count) {
+        let placement = match planned {
+            Ok(placement) => placement,
+            Err(refusal) => {
+                return Err(Refused {
+                    refusal: SettingsRefusal::from(refusal),
+                    line: last,
+                });
+            }
+        };
+        if placement.at < usize::from(taken) {
             return Err(Refused {
                 refusal: SettingsRefusal::GivenTwice,
                 line: last,
             });
         }
-        rules[plan.at] = plan.rule;
-        rule_count = plan.count;
+        rules[placement.at] = placement.rule;
         at = rule.next;
     }
     Ok(RulesFound {
         line: lines + 4 * u64::from(count),
         next: at,
-        rule_count,
         rules,
     })
+}
+
+// The rules of a table that count.
+pub(crate) fn counted(rules: &[TopicRule; RULES], count: u16) -> &[TopicRule]
+    requires { count ≤ 32 }
+    ensures value { result.now ≡ take count rules.now }
+    ensures many { length result.now ≡ count }
+{
+    &rules[..usize::from(count)]
 }
 
 // Rules, written into a lent buffer from `at` on.

@@ -6,6 +6,7 @@ ghost use Rattle.settings.specs.Told.{closing_told, settings_told, settings_give
 
 use crate::convert::convert_settings;
 use crate::read::{SettingsFound, read_settings};
+use crate::rules::counted;
 use crate::told_lines::{put_closing, put_head_told, put_rules_told};
 
 // Room for what is told of any text.
@@ -35,7 +36,7 @@ pub(crate) fn nothing_told() -> SettingsTold
 pub(crate) fn tell_closing(out: &mut [u8], number: u32, line: u64) -> SettingsTold
     ensures text { Wrote out.old out.new 0 (closing_told number line) result.length }
     ensures short { length (closing_told number line) ≤ 60 }
-    ensures ended { (result.number ≡ number) × (result.line ≡ line) }
+    ensures ended { result ≡ record { number = number; line = line; length = result.length } }
 {
     SettingsTold {
         number,
@@ -51,11 +52,7 @@ fn put_settings(out: &mut [u8], at: usize, found: &SettingsFound) -> usize
     ensures short { length (settings_told (settings_given (found_told found.now))) ≤ 10630 }
 {
     let after_head = put_head_told(out, at, &found.values);
-    put_rules_told(
-        out,
-        after_head,
-        &found.rules[..usize::from(found.values.rules)],
-    )
+    put_rules_told(out, after_head, counted(&found.rules, found.values.rules))
 }
 
 // What is told, at the beginning of a lent buffer, whose other bytes stay.

@@ -11,7 +11,7 @@ use lines::put::{
     put_word_line,
 };
 use rules_text::shown::put_shown;
-use tables::rules::{QosPolicy, TopicAction, TopicRule, action_number, policy_number, used};
+use tables::rules::{QosPolicy, TopicAction, TopicRule, action_number, policy_number};
 
 // How a text ended, and at which line.
 pub(crate) fn put_closing(out: &mut [u8], at: usize, number: u32, line: u64) -> usize
@@ -39,6 +39,7 @@ fn put_connect(out: &mut [u8], at: usize, threshold: u8, window: u64) -> usize
 
 // All but the rules.
 pub(crate) fn put_head_told(out: &mut [u8], at: usize, head: &HeadValues) -> usize
+    requires { head.now.rules ≤ 32 }
     ensures text { Wrote out.old out.new at
         (head_told head.now.form head.now.default_action head.now.matching head.now.threshold head.now.window head.now.rules)
         result }
@@ -123,7 +124,6 @@ fn put_rule_told(out: &mut [u8], at: usize, place: u64, rule: &TopicRule) -> usi
     ensures text { Wrote out.old out.new at (rule_told place (rule_in rule.now)) result }
     ensures short { length (rule_told place (rule_in rule.now)) ≤ 320 }
 {
-    let n = used(rule.pattern_len);
     let after_ruling = put_ruling(
         out,
         at,
@@ -132,7 +132,7 @@ fn put_rule_told(out: &mut [u8], at: usize, place: u64, rule: &TopicRule) -> usi
         rule.qos_policy,
         rule.max_rate_per_sec,
     );
-    put_pattern(out, after_ruling, &rule.pattern[..n])
+    put_pattern(out, after_ruling, rule.pattern())
 }
 
 // Rules, by their numbers from 1.

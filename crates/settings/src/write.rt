@@ -7,7 +7,7 @@ ghost use Rattle.settings.specs.SettingsText.{form_refusal};
 
 use crate::head::{HeadValues, head_len, put_head};
 use crate::refusal::SettingsRefusal;
-use crate::rules::{put_rules, rules_len};
+use crate::rules::{counted, put_rules, rules_len};
 use monitor::state::MqttMonitor;
 use topics::matching::Matching;
 
@@ -47,7 +47,7 @@ pub fn settings_length(m: &MqttMonitor, form: u32) -> Result<usize, SettingsRefu
     }
     check_form(form, m.matching)?;
     let head = head_len(&head_in(m, form));
-    Ok(head + rules_len(&m.rules[..usize::from(m.rule_count)]))
+    Ok(head + rules_len(counted(&m.rules, m.rule_count)))
 }
 
 // The text at the beginning of a lent buffer, whose other bytes stay, and its length; 28 comes last, where there is no room. Where it is refused all bytes stay.
@@ -60,6 +60,6 @@ pub fn write_settings(m: &MqttMonitor, form: u32, out: &mut [u8]) -> Result<usiz
         return Err(SettingsRefusal::NoRoom);
     }
     let next = put_head(out, 0, &head_in(m, form));
-    put_rules(out, next, &m.rules[..usize::from(m.rule_count)]);
+    put_rules(out, next, counted(&m.rules, m.rule_count));
     Ok(wanted)
 }

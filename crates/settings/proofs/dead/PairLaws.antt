@@ -34,7 +34,7 @@ module _ (count later earlier : ℕ) where
   unfolding is_pair
   pair_asked z h = rw (lt-ltb 0 earlier (omega (arith, z)), lt-ltb earlier later h)
 
-  pair_says : is_pair count later earlier ≡ true → (0 < earlier) × (earlier < later) × (later ≤ count)
+  pub pair_says : is_pair count later earlier ≡ true → (0 < earlier) × (earlier < later) × (later ≤ count)
   unfolding is_pair
   pair_says e =
       by (ltb 0 earlier)

@@ -9,7 +9,7 @@ use lib.ListN.{length, take}
 use Rattle.laws.proofs.Cases.{by}
 use Rattle.topics.specs.Patterns.{pattern_refusal}
 use Rattle.topics.proofs.patterns.PatternLaws.{accepted_length}
-use Rattle.forms.specs.Form.{Form, Took, took, stopped, FitAll, fit_none, fit_more, number_form, pair_form, map_form, test_form, many_form}
+use Rattle.forms.specs.Form.{Took, took, stopped, FitAll, fit_none, fit_more, number_form, pair_form, map_form, test_form, many_form}
 use Rattle.forms.proofs.RealLaws.{RealTook}
 use Rattle.rules_text.specs.RuleText.{RuleText, rule_in, rule_refusal, rule_form}
 use Rattle.settings.specs.Kept.{settings_read, rules_from, read_of, SettingsRead}

@@ -1,6 +1,6 @@
 -- `settings::head::read_head` meets its contract: the chain of its lines is what the form reads, and the values that are cast are in range. Assumes nothing.
-use mathlib.Core.Path.{sym, ◌∙◌}
 use native.Mathlib.Omega.{arith}
+use Rattle.std.proofs.lemmas.Result.{err_from_is_err_and}
 use Rattle.settings.proofs.head.HeadLaws.{Chained, head_stops, head_reads, head_form, head_threshold, head_rules, head_fine}
 use Rattle.settings.proofs.refusal.KnownLaws.{at_known, checked_stops, checked_goes}
 use Rattle.settings.proofs.head.read_head.Goals.{After-check_line}
@@ -22,7 +22,11 @@ chained c =
     }
 
 pub returns-in_err-check_line : goal.returns-in_err-check_line
-returns-in_err-check_line c = ?
+returns-in_err-check_line c =
+    let h = chained (goal.at.returns-in_err-check_line c).After-check_line in
+    let p = err_from_is_err_and c.from_residual.result c.from_residual.ensures.1 in
+    let q = checked_stops _ _ c.in_err-check_line.ensures in
+    rw (p.1, p.2, q.1, at_known (head_fine h q.0), c.from-line.ensures) (head_stops h q.0)
 
 pub overflow_cast-result : goal.overflow_cast-result
 overflow_cast-result c = omega (arith, head_form (chained (goal.at.overflow_cast-result c).After-check_line) (checked_goes _ _ c.in_ok-check_line.ensures))

@@ -9,6 +9,6 @@ use Rattle.settings.proofs.rules.read_rules.Given as goal
 abbrev pub invariant-loop-taken : goal.invariant-loop-taken
 invariant-loop-taken l =
     record {
-      loading : Loading l.text l.count l.from l.lines (l.count - l.taken) (l.lines + 4 * l.taken) l.at l.rules l.rule_count;
+      loading : Loading l.text l.count l.from l.lines (l.count - l.taken) (l.lines + 4 * l.taken) l.at l.rules l.taken;
       room : length l.pattern ≡ 128;
     }
