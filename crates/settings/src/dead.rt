@@ -7,7 +7,7 @@ ghost use Rattle.settings.specs.Told.{told_room};
 
 use crate::dead_lines::{put_between, put_report};
 use crate::read::{SettingsFound, read_settings};
-use crate::told::{ROOM, SettingsTold, nothing_told, tell_closing};
+use crate::told::{ROOM, SettingsTold, nothing_told, tell_closing, tell_refused};
 use crate::told_lines::put_closing;
 use tables::covers::{cover_report, rule_witness};
 
@@ -41,7 +41,7 @@ pub fn tell_dead(text: &[u8], out: &mut [u8]) -> SettingsTold
             line: found.line,
             length: put_dead_rules(out, &found),
         },
-        Err(refused) => tell_closing(out, refused.refusal.number(), refused.line),
+        Err(refused) => tell_refused(out, refused),
     }
 }
 
@@ -60,11 +60,9 @@ fn put_pair(out: &mut [u8], found: &SettingsFound, later: u64, earlier: u64) -> 
     ensures text { Wrote out.old out.new 0 (pair_of later earlier (found_told found.now)) result }
     ensures short { length (pair_of later earlier (found_told found.now)) ≤ 16384 }
 {
-    let witness = rule_witness(
-        &found.rules[later as usize - 1],
-        &found.rules[earlier as usize - 1],
-        found.values.matching,
-    );
+    let last = &found.rules[later as usize - 1];
+    let first = &found.rules[earlier as usize - 1];
+    let witness = rule_witness(last, first, found.values.matching);
     put_between(out, 0, later, earlier, &witness)
 }
 
@@ -88,6 +86,6 @@ pub fn tell_pair(text: &[u8], later: u64, earlier: u64, out: &mut [u8]) -> Setti
                 length: put_pair(out, &found, later, earlier),
             }
         }
-        Err(refused) => tell_closing(out, refused.refusal.number(), refused.line),
+        Err(refused) => tell_refused(out, refused),
     }
 }

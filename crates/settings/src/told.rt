@@ -1,11 +1,12 @@
 // What a settings text sets, told to a person, and the text in another form: what the program `hubsettings` prints.
 ghost use Rattle.std.specs.Prelude.{◌≡◌, ◌≤◌, length};
 ghost use Rattle.lines.specs.Wrote.{Wrote};
-ghost use Rattle.settings.specs.Refused.{found_told};
+ghost use Rattle.settings.specs.Refused.{found_told, refusal_number};
 ghost use Rattle.settings.specs.Told.{closing_told, settings_told, settings_given, told_text, turned_text, told_room, told_end, turned_end, told_kept, turned_kept};
 
 use crate::convert::convert_settings;
 use crate::read::{SettingsFound, read_settings};
+use crate::refusal::Refused;
 use crate::rules::counted;
 use crate::told_lines::{put_closing, put_head_told, put_rules_told};
 
@@ -45,6 +46,15 @@ pub(crate) fn tell_closing(out: &mut [u8], number: u32, line: u64) -> SettingsTo
     }
 }
 
+// Those of a text that is refused.
+pub(crate) fn tell_refused(out: &mut [u8], refused: Refused) -> SettingsTold
+    ensures text { Wrote out.old out.new 0 (closing_told (refusal_number refused.refusal) refused.line) result.length }
+    ensures short { length (closing_told (refusal_number refused.refusal) refused.line) ≤ 60 }
+    ensures ended { result ≡ record { number = refusal_number refused.refusal; line = refused.line; length = result.length } }
+{
+    tell_closing(out, refused.refusal.number(), refused.line)
+}
+
 // The settings of a text that was read.
 fn put_settings(out: &mut [u8], at: usize, found: &SettingsFound) -> usize
     requires { found.now.values.rules ≤ 32 }
@@ -73,7 +83,7 @@ pub fn tell_settings(text: &[u8], out: &mut [u8]) -> SettingsTold
                 length: put_settings(out, after_closing, &found),
             }
         }
-        Err(refused) => tell_closing(out, refused.refusal.number(), refused.line),
+        Err(refused) => tell_refused(out, refused),
     }
 }
 
@@ -92,6 +102,6 @@ pub fn turn_settings(text: &[u8], form: u32, out: &mut [u8]) -> SettingsTold
             line: converted.line,
             length: converted.length,
         },
-        Err(refused) => tell_closing(out, refused.refusal.number(), refused.line),
+        Err(refused) => tell_refused(out, refused),
     }
 }

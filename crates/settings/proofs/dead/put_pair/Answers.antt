@@ -5,8 +5,8 @@ use Rattle.settings.specs.Refused.{found_told}
 use Rattle.settings.proofs.dead.PairLaws.{pair_says, pair_taken, found_wrote, witness_short}
 use Rattle.settings.proofs.dead.put_pair.Goals as goal
 
-pub overflow_sub-later : goal.overflow_sub-later
-overflow_sub-later c = omega (arith, pair_says _ _ _ c.requires.is_pair)
+pub overflow_sub-last : goal.overflow_sub-last
+overflow_sub-last c = omega (arith, pair_says _ _ _ c.requires.is_pair)
 
 pub offset_bounds-found-later : goal.offset_bounds-found-later
 offset_bounds-found-later c = omega (arith, pair_says _ _ _ c.requires.is_pair)
@@ -14,8 +14,8 @@ offset_bounds-found-later c = omega (arith, pair_says _ _ _ c.requires.is_pair)
 pub bounds-found-later : goal.bounds-found-later
 bounds-found-later c = omega (arith, pair_says _ _ _ c.requires.is_pair)
 
-pub overflow_sub-earlier : goal.overflow_sub-earlier
-overflow_sub-earlier c = omega (arith, pair_says _ _ _ c.requires.is_pair)
+pub overflow_sub-first : goal.overflow_sub-first
+overflow_sub-first c = omega (arith, pair_says _ _ _ c.requires.is_pair)
 
 pub offset_bounds-found-earlier : goal.offset_bounds-found-earlier
 offset_bounds-found-earlier c = omega (arith, pair_says _ _ _ c.requires.is_pair)

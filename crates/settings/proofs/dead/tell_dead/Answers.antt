@@ -22,5 +22,5 @@ pub returns-in-Err : goal.returns-in-Err
 returns-in-Err c =
     let r = not_read (refusal_number c.in-Err.refused.refusal) c.in-Err.refused.line in
     let h = dead_told _ _ r c.if-out-lt-ROOM.false c.in-Err.ensures
-    (dead_refused r (never_0 c.in-Err.refused.refusal) (rw c.number.ensures at c.tell_closing.ensures.text, rw c.number.ensures at c.tell_closing.ensures.short)) in
-    record { answer = (rw c.number.ensures at c.tell_closing.ensures.ended) ∙ h.0; buffer = h.1.0; enough = h.1.1 }
+    (dead_refused r (never_0 c.in-Err.refused.refusal) (c.tell_refused.ensures.text, c.tell_refused.ensures.short)) in
+    record { answer = c.tell_refused.ensures.ended ∙ h.0; buffer = h.1.0; enough = h.1.1 }

@@ -44,5 +44,5 @@ returns-in-Err c =
     let n = pair_refused r c.args.later c.args.earlier (never_0 c.in-Err.refused.refusal) in
     let h = pair_told c.args.later c.args.earlier _ _ r c.if-out-lt-ROOM.false c.in-Err.ensures n
     (refused_wrote r c.args.later c.args.earlier n (never_0 c.in-Err.refused.refusal)
-    (rw c.number.ensures at c.tell_closing-in-Err.ensures.text, rw c.number.ensures at c.tell_closing-in-Err.ensures.short)) in
-    record { answer = (rw c.number.ensures at c.tell_closing-in-Err.ensures.ended) ∙ h.0; buffer = h.1.0; enough = h.1.1 }
+    (c.tell_refused.ensures.text, c.tell_refused.ensures.short)) in
+    record { answer = c.tell_refused.ensures.ended ∙ h.0; buffer = h.1.0; enough = h.1.1 }

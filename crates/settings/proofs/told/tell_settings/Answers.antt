@@ -24,5 +24,5 @@ pub returns-in-Err : goal.returns-in-Err
 returns-in-Err c =
     let e = c.in-Err.refused in
     let h = told_refused _ _ c.if-out-lt-ROOM.false (not_read (refusal_number e.refusal) e.line) c.in-Err.ensures (never_0 e.refusal)
-    (rw c.number.ensures at c.tell_closing.ensures.text, rw c.number.ensures at c.tell_closing.ensures.short) in
-    record { answer = (rw c.number.ensures at c.tell_closing.ensures.ended) ∙ h.0; buffer = h.1.0; enough = h.1.1 }
+    (c.tell_refused.ensures.text, c.tell_refused.ensures.short) in
+    record { answer = c.tell_refused.ensures.ended ∙ h.0; buffer = h.1.0; enough = h.1.1 }

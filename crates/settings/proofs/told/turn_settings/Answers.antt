@@ -15,5 +15,5 @@ returns-in-Ok c =
 pub returns-in-Err : goal.returns-in-Err
 returns-in-Err c =
     let h = turned_refused _ _ _ c.if-out-lt-ROOM.false (c.in-Err.ensures.answer, c.in-Err.ensures.buffer) (never_0 c.in-Err.refused.refusal)
-    (rw c.number.ensures at c.tell_closing.ensures.text, rw c.number.ensures at c.tell_closing.ensures.short) in
-    record { answer = (rw c.number.ensures at c.tell_closing.ensures.ended) ∙ h.0; buffer = h.1.0; enough = h.1.1 }
+    (c.tell_refused.ensures.text, c.tell_refused.ensures.short) in
+    record { answer = c.tell_refused.ensures.ended ∙ h.0; buffer = h.1.0; enough = h.1.1 }
