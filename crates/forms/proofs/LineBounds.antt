@@ -1,4 +1,4 @@
--- What holds of every line that is read at a place, on the definitions of `lines`: it lies in its text, and 26 is its highest number; one that was read ends
+-- What holds of every line that is read at a place, on the definitions of `lines`: it lies in its text, and its number is 0 or one from 21 to 26; one that was read ends
 -- further on by its key and its LF at least, its value is in range, and a lent buffer begins with the bytes of its hex. Assumes nothing.
 use Prim.Native.Nat.{ℕ, ◌+◌, ◌%◌, ◌≤◌}
 use mathlib.Core.Path.{◌≡◌, refl, sym, ap, ◌∙◌}
@@ -31,18 +31,20 @@ use Rattle.lines.proofs.held.SpanLaws.{span_whole}
 pub record Answer (s : List ℕ) (f : Field) : Type 0 where
   pub within : Within s f
   pub known : f.number ≤ 26
+  pub real : (f.number ≡ 0 → ⊥) → 21 ≤ f.number
 
 -- what a line with its key at a place gave
 pub record Lies (s : List ℕ) (at : ℕ) (key : List ℕ) (f : Field) : Type 0 where
   pub answer : Answer s f
   pub further : f.number ≡ 0 → at + length key + 1 ≤ f.next
 
-lies_refused : {s : List ℕ} {at : ℕ} {key : List ℕ} {f : Field} (number place : ℕ) → f ≡ refused number place → (number ≡ 0 → ⊥) → number ≤ 26 → place ≤ length s
+lies_refused : {s : List ℕ} {at : ℕ} {key : List ℕ} {f : Field} (number place : ℕ) → f ≡ refused number place → 21 ≤ number → number ≤ 26 → place ≤ length s
     → Lies s at key f
 lies_refused number place e z m h =
+    let k = ap (λ (f : Field). f.number) e in
     record {
-      answer = record { within = within_refused number place e h; known = omega (arith, ap (λ (f : Field). f.number) e) };
-      further = λ n. absurd (z (sym (ap (λ (f : Field). f.number) e) ∙ n));
+      answer = record { within = within_refused number place e h; known = omega (arith, k); real = λ n. omega (arith, k) };
+      further = λ n. absurd (omega (arith, k, n));
     }
 
 -- a line that was read keeps its places, whatever its value is
@@ -53,6 +55,7 @@ lies_read line v z l =
           record {
             within = record { ordered = l.answer.within.ordered; inside = l.answer.within.inside; after = l.answer.within.after };
             known = omega arith;
+            real = λ n. absurd (n refl);
           };
       further = λ n. l.further z;
     }
@@ -63,6 +66,13 @@ hex_known room l =
     by (eqb (length l % 2) 0 && every is_hex l)
     (λ t. rw t (by (leb (hex_count l) room) (λ u. rw u (omega arith)) (λ u. rw u (omega arith))))
     (λ t. rw t (omega arith))
+
+hex_real : (room : ℕ) (l : List ℕ) → (hex_refusal room l ≡ 0 → ⊥) → 21 ≤ hex_refusal room l
+unfolding hex_refusal
+hex_real room l =
+    by (eqb (length l % 2) 0 && every is_hex l)
+    (λ t. rw t (by (leb (hex_count l) room) (λ u. rw u (λ z. absurd (z refl))) (λ u. rw u (λ z. omega arith))))
+    (λ t. rw t (λ z. omega arith))
 
 module _ (s : List ℕ) (at : ℕ) (key : List ℕ) where
   line_lies : Lies s at key (line_at s at key)
@@ -75,11 +85,11 @@ module _ (s : List ℕ) (at : ℕ) (key : List ℕ) where
       (λ b.
       let h = line_room s at key {p = span_of s at} refl w b in
       let g = span_whole s at w in
-      rw (w, b) (record { answer = record { within = record { ordered = h.0; inside = i.1; after = h.1 }; known = omega arith }; further = λ n. omega arith }))
-      (λ b. lies_refused 21 (span_of s at).from (rw (w, b)) (λ z. omega arith) (omega arith) (omega arith)))
-      (λ w. lies_refused 26 (span_of s at).from (rw w) (λ z. omega arith) (omega arith) (omega arith))
+      rw (w, b) (record { answer = record { within = record { ordered = h.0; inside = i.1; after = h.1 }; known = omega arith; real = λ n. absurd (n refl) }; further = λ n. omega arith }))
+      (λ b. lies_refused 21 (span_of s at).from (rw (w, b)) (omega arith) (omega arith) (omega arith)))
+      (λ w. lies_refused 26 (span_of s at).from (rw w) (omega arith) (omega arith) (omega arith))
 
-  answered_lies : (number : ℕ) (n : Number) → (number ≡ 0 → ⊥) → number ≤ 26 → Lies s at key (on_line (line_at s at key) (answered (line_at s at key) (place_in s at) number n))
+  answered_lies : (number : ℕ) (n : Number) → 21 ≤ number → number ≤ 26 → Lies s at key (on_line (line_at s at key) (answered (line_at s at key) (place_in s at) number n))
   unfolding answered
   answered_lies number n z m =
       by (eqb (line_at s at key).number 0) (λ t. rw t (by_number n (eqb-true _ _ t))) (λ t. rw t line_lies)
@@ -90,11 +100,11 @@ module _ (s : List ℕ) (at : ℕ) (key : List ℕ) where
 
   pub number_lies : (low high : ℕ) → Lies s at key (number_field s at key low high)
   unfolding number_field
-  number_lies low high = answered_lies 22 (decimal_of low high (value_of s (line_at s at key))) (λ z. omega arith) (omega arith)
+  number_lies low high = answered_lies 22 (decimal_of low high (value_of s (line_at s at key))) (omega arith) (omega arith)
 
   pub word_lies : (ws : List ℕ) → Lies s at key (word_field s at key ws)
   unfolding word_field
-  word_lies ws = answered_lies 23 (word_of ws (value_of s (line_at s at key))) (λ z. omega arith) (omega arith)
+  word_lies ws = answered_lies 23 (word_of ws (value_of s (line_at s at key))) (omega arith) (omega arith)
 
   pub hex_lies : (room : ℕ) → Lies s at key (hex_field s at key room)
   unfolding hex_field
@@ -104,7 +114,7 @@ module _ (s : List ℕ) (at : ℕ) (key : List ℕ) where
       (λ t.
       by (eqb (hex_refusal room l) 0)
       (λ u. rw (t, u) (lies_read (line_at s at key) (hex_count l) (eqb-true _ _ t) line_lies))
-      (λ u. rw (t, u) (lies_refused (hex_refusal room l) (place_in s at) refl (eqb-false _ _ u) (hex_known room l) (omega arith))))
+      (λ u. rw (t, u) (lies_refused (hex_refusal room l) (place_in s at) refl (hex_real room l (eqb-false _ _ u)) (hex_known room l) (omega arith))))
       (λ t. rw t line_lies)
 
   -- a number that was read is not over its range

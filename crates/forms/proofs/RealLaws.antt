@@ -28,9 +28,16 @@ abbrev pub Real : {A : Type 0} → ℕ → Form A → Type 0
 Real k F = (s : List ℕ) (at line : ℕ) → RealTook k (F.read s at line)
 
 -- a number at the end of a text is one of a line
-end_known : (s : List ℕ) (at : ℕ) → text_end s at ≤ 26
+pub end_known : (s : List ℕ) (at : ℕ) → text_end s at ≤ 26
 unfolding text_end
 end_known s at = whichever (λ (n : ℕ). n ≤ 26) (leb (length s) at) (omega arith) (whichever (λ (n : ℕ). n ≤ 26) (span_of s at).whole (omega arith) (omega arith))
+
+-- from 21 on
+pub end_real : (s : List ℕ) (at : ℕ) → (text_end s at ≡ 0 → ⊥) → 21 ≤ text_end s at
+unfolding text_end
+end_real s at =
+    let P = λ (n : ℕ). (n ≡ 0 → ⊥) → 21 ≤ n in
+    whichever P (leb (length s) at) (λ z. absurd (z refl)) (whichever P (span_of s at).whole (λ z. omega arith) (λ z. omega arith))
 
 module _ {k : ℕ} where
   -- what is taken is not stopped

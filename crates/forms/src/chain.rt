@@ -6,7 +6,7 @@ use lines::read::{Field, number_field, word_field};
 
 // What the lines of a group gave up to one. Where a line was refused: its number, and which line of the group it is, the first being 0. Else the last line's value, where that stands in
 // the text (from..to), and the place after the line.
-#[derive(Clone, Copy)]
+#[derive(Clone, Copy, Debug, PartialEq, Eq)]
 pub struct Lined {
     pub number: u32,
     pub line: u32,

@@ -1,6 +1,6 @@
 -- A rule's form keeps its law both ways: its lines are put together of forms that do. And what whoever puts rules together asks of them: that it is refused by a number from 1 to 36, that there are
 -- four lines, that they are not over 171 bytes. Assumes nothing.
-use Prim.Native.Nat.{ℕ, zero, suc, ◌+◌, ◌*◌, ◌≤◌, ◌<◌}
+use Prim.Native.Nat.{ℕ, zero, suc, ◌*◌, ◌≤◌, ◌<◌}
 use mathlib.Core.Path.{◌≡◌, refl}
 use mathlib.Core.Bool.{true}
 use mathlib.Core.List.{List, [], ◌∷◌, ◌++◌}

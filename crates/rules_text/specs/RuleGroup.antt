@@ -1,7 +1,7 @@
 -- Document 01, "The trace": the four lines of a rule in their fixed order, as the code reads them. Each line is one field of `lines`, which decides 26, 21 and the value's own number; the group stops
 -- at its first refused line. `line` says which line of the group that is, the first being 0; of a group that was read it is the last. RuleText.antt says the same as a form.
 -- Assumes nothing.
-use Rattle.std.specs.Prelude.{cond, List, ℕ, ◌≤◌, eqb, length}
+use Rattle.std.specs.Prelude.{cond, List, ℕ, ◌≤◌, ◌≡◌, eqb, length}
 use Rattle.slices.specs.Bytes.{bytes}
 use Rattle.lines.specs.Field.{number_field, word_field, hex_field, hex_kept}
 use Rattle.lines.specs.ReadHex.{unhex}
@@ -65,6 +65,7 @@ pub record RuleIn (s : List ℕ) (r : RuleLines) : Type 0 where
   pub after : r.next ≤ length s
   pub line : r.line ≤ 3
   pub known : r.number ≤ 26
+  pub real : (r.number ≡ 0 → ⊥) → 21 ≤ r.number
   pub ordered : r.pattern_from ≤ r.pattern_to
   pub inside : r.pattern_to ≤ length s
   pub short : length (pattern_in s r) ≤ 128

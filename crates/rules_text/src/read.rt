@@ -9,7 +9,7 @@ use tables::rules::{QosPolicy, TopicAction, action_at, policy_at};
 pub const PATTERN_ROOM: usize = 128;
 
 // What a rule's four lines gave; the pattern's hex stands at pattern_from..pattern_to of the text, its bytes in a lent buffer.
-#[derive(Drop)]
+#[derive(Clone, Copy)]
 pub struct RuleLines {
     pub number: u32,
     pub line: u32,
@@ -64,16 +64,14 @@ pub fn read_rule(text: &[u8], at: usize, pattern: &mut [u8; PATTERN_ROOM]) -> Ru
     if rate.number != 0 {
         return rule_stopped(rate, 3);
     }
-    let rule_action = action_at(action.value);
-    let qos_policy = policy_at(qos.value);
     RuleLines {
         number: 0,
         line: 3,
         next: rate.next,
         pattern_from: hex.from,
         pattern_to: hex.to,
-        action: rule_action,
-        qos_policy,
+        action: action_at(action.value),
+        qos_policy: policy_at(qos.value),
         rate: rate.value as u16,
     }
 }

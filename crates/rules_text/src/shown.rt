@@ -11,10 +11,8 @@ pub fn put_shown(out: &mut [u8], at: usize, topic: &[u8]) -> usize
 {
     let whole = is_readable(topic);
     let mut p = at;
-    let mut i = 0;
-    while i < topic.len() {
-        p = put_byte(out, p, shown_byte(whole, topic[i]));
-        i += 1;
+    for &byte in topic {
+        p = put_byte(out, p, shown_byte(whole, byte));
     }
     p
 }

@@ -20,7 +20,6 @@ use Rattle.forms.specs.Form.{Took, took, stopped, on_took, renumbered, word_form
 use Rattle.forms.specs.Stands.{Stands}
 use Rattle.forms.proofs.FieldRound.{word_not_there}
 use Rattle.forms.proofs.StandsLaws.{stands_first, stands_whole}
-use Rattle.monitor.specs.Sound.{Sound}
 use Rattle.monitor.specs.State.{well_formed}
 use Rattle.monitor.specs.declared.state.MqttMonitor.{MqttMonitor}
 use Rattle.settings.specs.Convert.{form_meant, end_at, converted_end, convert_end, converted_kept, convert_kept, in_form}

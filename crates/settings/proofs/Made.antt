@@ -1,6 +1,6 @@
 -- A loaded monitor is one that calls make: a constructor, `set_connect_storm_params`, which clamps nothing of a text that was accepted, and `add_rule` for each of its rules, which takes every one and
 -- overwrites none. So whatever calls keep holds of it. Assumes nothing.
-use Prim.Native.Nat.{ℕ, ◌+◌, ◌-◌, ◌≤◌, ◌<◌, min, max}
+use Prim.Native.Nat.{ℕ, ◌+◌, ◌≤◌, ◌<◌, min, max}
 use mathlib.Core.Path.{◌≡◌, refl, sym, ◌∙◌}
 use mathlib.Core.Bool.{false}
 use mathlib.Core.List.{List, [], ◌∷◌, ◌++◌, append-nil, append_assoc}

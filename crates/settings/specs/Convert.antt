@@ -1,12 +1,11 @@
 -- A text loaded and written back in a form, 0 for its own. The text's own refusals come first, with their lines; then those of the writing: 37 at the text's last line, since it is about what the text
 -- says, and the others, which are about what was asked for and lent, of no line.
 -- Assumes nothing.
-use Rattle.std.specs.Prelude.{cond, ◌||◌, List, ℕ, eqb, length}
+use Rattle.std.specs.Prelude.{cond, ◌||◌, List, ℕ, eqb}
 use Rattle.forms.specs.Form.{Took, took, stopped}
-use Rattle.settings.specs.Loaded.{monitor_of, written_of, text_kept}
+use Rattle.settings.specs.Loaded.{monitor_of, written_of, text_kept, Written}
 use Rattle.settings.specs.SettingsText.{Settings, settings_of}
 use Rattle.settings.specs.declared.convert.SettingsEnd.{SettingsEnd}
-use Rattle.settings.specs.declared.write.Written.{Written}
 
 -- the form that is meant
 abbrev pub form_meant : ℕ → ℕ → ℕ

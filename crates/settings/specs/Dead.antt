@@ -10,9 +10,8 @@ use Rattle.lines.specs.Line.{number_line, hex_line}
 use Rattle.tables.specs.Covers.{rule_witness, cover_report}
 use Rattle.tables.specs.Rules.{pattern_of, no_rule}
 use Rattle.tables.specs.declared.rules.TopicRule.{TopicRule}
-use Rattle.settings.specs.Kept.{read_of}
+use Rattle.settings.specs.Kept.{read_of, SettingsRead}
 use Rattle.settings.specs.Told.{closing_told, in_room, kept_in}
-use Rattle.settings.specs.declared.read.SettingsRead.{SettingsRead}
 use Rattle.settings.specs.declared.told.SettingsTold.{SettingsTold}
 
 -- a sentence on two rules

@@ -5,5 +5,6 @@ pub mod HomeAgain
 pub mod Kept
 pub mod Loaded
 pub mod OneToOne
+pub mod Refused
 pub mod SettingsText
 pub mod Told

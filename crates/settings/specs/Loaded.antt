@@ -12,8 +12,6 @@ use Rattle.monitor.specs.Calls.{fresh}
 use Rattle.monitor.specs.State.{well_formed, with_rules, with_settings}
 use Rattle.monitor.specs.declared.state.MqttMonitor.{MqttMonitor}
 use Rattle.settings.specs.SettingsText.{Settings, form_refusal, settings_form}
-use Rattle.settings.specs.declared.load.LoadedSettings.{LoadedSettings}
-use Rattle.settings.specs.declared.write.Written.{Written}
 
 -- WRITING
 
@@ -36,6 +34,11 @@ settings_text form m = settings_form.text (settings_in form m)
 -- the number that refuses a text of a monitor in a form: 10 first, then 29 for a form that is not known, or 37 for one that has no word for its matcher
 unfoldable pub text_refusal : ℕ → MqttMonitor → ℕ
 text_refusal form m = cond (well_formed m) (form_refusal form m.matching) 10
+
+-- how a text was written, or measured: 0 and its length, or the number that refused it
+pub record Written : Type 0 where
+  pub number : ℕ
+  pub length : ℕ
 
 -- a refusal: nothing is written
 abbrev pub unwritten : ℕ → Written
@@ -71,6 +74,13 @@ table_of rs = map rule_held rs ++ replicate (32 - length rs) empty_rule
 unfoldable pub monitor_of : Settings → MqttMonitor
 monitor_of v =
     with_settings (with_rules (fresh v.matching v.default) (table_of v.rules) (length v.rules)) v.threshold v.window
+
+-- what a text loaded to
+pub record LoadedSettings : Type 0 where
+  pub number : ℕ
+  pub line : ℕ
+  pub form : ℕ
+  pub monitor : MqttMonitor
 
 -- what a load hands back: the monitor, the form of its text and the last line; or number and line, beside a fresh monitor that denies all
 unfoldable pub loaded_of : Took Settings → LoadedSettings

@@ -16,7 +16,7 @@ use Rattle.tables.specs.declared.rules.TopicAction.{TopicAction}
 use Rattle.rules_text.specs.RuleText.{RuleText, rule_in}
 use Rattle.settings.specs.Convert.{form_meant, line_for, in_form}
 use Rattle.settings.specs.SettingsText.{Settings, matching_number, form_refusal, settings_form, settings_of}
-use Rattle.settings.specs.declared.read.SettingsRead.{SettingsRead}
+use Rattle.settings.specs.Kept.{SettingsRead}
 use Rattle.settings.specs.declared.told.SettingsTold.{SettingsTold}
 
 -- how the text ended, and where

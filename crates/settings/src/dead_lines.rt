@@ -42,33 +42,29 @@ fn put_shown_line(out: &mut [u8], at: usize, key: &[u8], t: &[u8]) -> usize
 }
 
 // A rule's pattern as text.
-fn put_pattern_line(out: &mut [u8], at: usize, key: &[u8], rule: TopicRule) -> usize
-    ensures text { Wrote out.old out.new at (shown_line key.now (pattern_of rule)) result }
-    ensures short { length (shown_line key.now (pattern_of rule)) ≤ length key.now + 65 }
+fn put_pattern_line(out: &mut [u8], at: usize, key: &[u8], rule: &TopicRule) -> usize
+    ensures text { Wrote out.old out.new at (shown_line key.now (pattern_of rule.now)) result }
+    ensures short { length (shown_line key.now (pattern_of rule.now)) ≤ length key.now + 65 }
 {
-    let n = used(rule.pattern_len);
-    let pattern = rule.pattern;
-    put_shown_line(out, at, key, &pattern[..n])
+    put_shown_line(out, at, key, &rule.pattern[..used(rule.pattern_len)])
 }
 
 // A rule and the rule that hides it, by their numbers; nothing where that number is 0.
 fn put_dead(
     out: &mut [u8],
     at: usize,
-    rules: [TopicRule; RULES],
+    rules: &[TopicRule; RULES],
     rule: usize,
     cover: usize,
 ) -> usize
     requires rule_in { (1 ≤ rule) × (rule ≤ 32) }
     requires cover_bound { cover ≤ 32 }
-    ensures text { Wrote out.old out.new at (dead_told rules rule cover) result }
-    ensures short { length (dead_told rules rule cover) ≤ 300 }
+    ensures text { Wrote out.old out.new at (dead_told rules.now rule cover) result }
+    ensures short { length (dead_told rules.now rule cover) ≤ 300 }
 {
     if cover == 0 {
         return at;
     }
-    let silent = rules[rule - 1];
-    let hiding = rules[cover - 1];
     let after_sentence = put_two_rules(
         out,
         at,
@@ -78,22 +74,19 @@ fn put_dead(
         cover as u64,
         b" comes first, and matches every topic that it matches\n",
     );
-    let after_text = put_pattern_line(out, after_sentence, b"   text=", silent);
-    put_pattern_line(out, after_text, b"   hidden by=", hiding)
+    let after_text = put_pattern_line(out, after_sentence, b"   text=", &rules[rule - 1]);
+    put_pattern_line(out, after_text, b"   hidden by=", &rules[cover - 1])
 }
 
 // All that a report says.
-fn put_deads(out: &mut [u8], at: usize, rules: [TopicRule; RULES], covers: [u8; RULES]) -> usize
-    requires { (i : ℕ) → i < 32 → get_or covers i 0 ≤ 32 }
-    ensures text { Wrote out.old out.new at (deads_told rules 1 covers) result }
-    ensures short { length (deads_told rules 1 covers) ≤ 9600 }
+fn put_deads(out: &mut [u8], at: usize, rules: &[TopicRule; RULES], covers: &[u8; RULES]) -> usize
+    requires { (i : ℕ) → i < 32 → get_or covers.now i 0 ≤ 32 }
+    ensures text { Wrote out.old out.new at (deads_told rules.now 1 covers.now) result }
+    ensures short { length (deads_told rules.now 1 covers.now) ≤ 9600 }
 {
     let mut p = at;
-    let mut i = 0;
-    while i < RULES {
-        let cover = covers[i] as usize;
-        i += 1;
-        p = put_dead(out, p, rules, i, cover);
+    for (i, &cover) in covers.iter().enumerate() {
+        p = put_dead(out, p, rules, i + 1, usize::from(cover));
     }
     p
 }
@@ -102,14 +95,14 @@ fn put_deads(out: &mut [u8], at: usize, rules: [TopicRule; RULES], covers: [u8; 
 pub(crate) fn put_report(
     out: &mut [u8],
     at: usize,
-    rules: [TopicRule; RULES],
-    covers: [u8; RULES],
+    rules: &[TopicRule; RULES],
+    covers: &[u8; RULES],
 ) -> usize
-    requires { (i : ℕ) → i < 32 → get_or covers i 0 ≤ 32 }
-    ensures text { Wrote out.old out.new at (report_told rules covers) result }
-    ensures short { length (report_told rules covers) ≤ 9650 }
+    requires { (i : ℕ) → i < 32 → get_or covers.now i 0 ≤ 32 }
+    ensures text { Wrote out.old out.new at (report_told rules.now covers.now) result }
+    ensures short { length (report_told rules.now covers.now) ≤ 9650 }
 {
-    let silent = RULES - count_byte(&covers, 0);
+    let silent = RULES - count_byte(covers, 0);
     let after_count = put_number_line(out, at, b"Rules that can never speak: ", silent as u64);
     put_deads(out, after_count, rules, covers)
 }
@@ -120,11 +113,11 @@ pub(crate) fn put_between(
     at: usize,
     later: u64,
     earlier: u64,
-    witness: Witness,
+    witness: &Witness,
 ) -> usize
-    requires { witness.len ≤ 128 }
-    ensures text { Wrote out.old out.new at (between_told later earlier witness) result }
-    ensures short { length (between_told later earlier witness) ≤ 600 }
+    requires { witness.now.len ≤ 128 }
+    ensures text { Wrote out.old out.new at (between_told later earlier witness.now) result }
+    ensures short { length (between_told later earlier witness.now) ≤ 600 }
 {
     if witness.len == 0 {
         return put_two_rules(
@@ -137,7 +130,7 @@ pub(crate) fn put_between(
             b" matches\n",
         );
     }
-    let name = witness.name;
+    let name = &witness.name[..witness.len];
     let after_sentence = put_two_rules(
         out,
         at,
@@ -147,6 +140,6 @@ pub(crate) fn put_between(
         earlier,
         b" does not\n",
     );
-    let after_text = put_shown_line(out, after_sentence, b"   text=", &name[..witness.len]);
-    put_hex_line(out, after_text, b"   topic=", &name[..witness.len])
+    let after_text = put_shown_line(out, after_sentence, b"   text=", name);
+    put_hex_line(out, after_text, b"   topic=", name)
 }

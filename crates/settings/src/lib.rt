@@ -10,6 +10,7 @@ mod head;
 pub mod load;
 mod matcher;
 pub mod read;
+pub mod refusal;
 mod rules;
 pub mod told;
 mod told_lines;

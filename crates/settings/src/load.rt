@@ -1,39 +1,35 @@
-// A settings text, loaded: a fresh monitor that has its settings, or a number and a line.
+// A settings text, loaded: a fresh monitor that has its settings, or what refuses it.
 ghost use Rattle.std.specs.Prelude.{◌≡◌};
 ghost use Rattle.settings.specs.Loaded.{loaded_of};
+ghost use Rattle.settings.specs.Refused.{load_told};
 ghost use Rattle.settings.specs.SettingsText.{settings_of};
 
 use crate::read::read_settings;
-use monitor::calls::fresh;
+use crate::refusal::Refused;
 use monitor::state::MqttMonitor;
 
-// What a text loaded to: the monitor, the form of its text and the last line. Where `number` refuses the text at `line` nothing of it is kept: the monitor is then a fresh one that denies all.
+// What a text loaded to: the monitor, the form of its text and the last line.
 #[derive(Drop)]
-pub struct LoadedSettings {
-    pub number: u32,
+pub struct Loaded {
     pub line: u64,
     pub form: u32,
     pub monitor: MqttMonitor,
 }
 
-// No monitor is taken: whoever has one keeps it until this one is there. What was read of a refused text is what a fresh monitor has that denies all, so that there is one way here and one monitor on
-// the stack.
-pub fn load_settings(text: &[u8]) -> LoadedSettings
-    ensures { result ≡ loaded_of (settings_of text.now) }
+// No monitor is taken: whoever has one keeps it until this one is there.
+pub fn load_settings(text: &[u8]) -> Result<Loaded, Refused>
+    ensures { load_told result ≡ loaded_of (settings_of text.now) }
 {
-    let found = read_settings(text);
-    let matching = found.matching;
-    let default_action = found.default_action;
+    let found = read_settings(text)?;
+    let mut m = MqttMonitor::fresh(found.values.matching, found.values.default_action);
     let rules = found.rules;
-    let mut m = fresh(matching, default_action);
     m.rules = rules;
-    m.rule_count = found.rule_count;
-    m.connect_storm_threshold = found.threshold;
-    m.connect_storm_window_us = found.window;
-    LoadedSettings {
-        number: found.number,
+    m.rule_count = found.values.rules;
+    m.connect_storm_threshold = found.values.threshold;
+    m.connect_storm_window_us = found.values.window;
+    Ok(Loaded {
         line: found.line,
-        form: found.form,
+        form: found.values.form,
         monitor: m,
-    }
+    })
 }

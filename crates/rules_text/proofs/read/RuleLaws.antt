@@ -1,7 +1,7 @@
 -- What holds of every rule's lines, on their definition. The group stopped at a refused line or was read whole: `rule_cases` goes by these cases. So it lies in its text (`rule_within`), one that was
 -- read takes some of it (`rule_further`), and the lent buffer begins with the pattern's bytes then (`pattern_part`). Assumes nothing.
 use Prim.Native.Nat.{ℕ, ◌-◌, ◌/◌, ◌≤◌}
-use mathlib.Core.Path.{◌≡◌, ◌∙◌}
+use mathlib.Core.Path.{◌≡◌, refl, ◌∙◌}
 use mathlib.Core.List.{List}
 use native.Mathlib.Omega.{arith}
 use lib.ListN.{length, take, length-take, length-drop}
@@ -60,7 +60,7 @@ module _ (s : List ℕ) (at : ℕ) where
   rule_within e =
       rw e
       (rule_cases (RuleIn s)
-      (λ f k w h z. record { after = w.within.after; line = h; known = w.known; ordered = omega arith; inside = omega arith; short = omega arith })
+      (λ f k w h z. record { after = w.within.after; line = h; known = w.known; real = w.real; ordered = omega arith; inside = omega arith; short = omega arith })
       (λ r.
       let w = (hex_lies s at (bytes "pattern=") 128).answer.within in
       let v = hex_value s at (bytes "pattern=") 128 r.pattern in
@@ -69,6 +69,7 @@ module _ (s : List ℕ) (at : ℕ) where
         after = (number_lies s policy_of.next (bytes "rate=") 0 65535).answer.within.after;
         line = omega arith;
         known = omega arith;
+        real = λ z. absurd (z refl);
         ordered = w.ordered;
         inside = w.inside;
         short = omega (arith, v);

@@ -7,10 +7,8 @@ use lib.ListN.{length}
 use Rattle.forms.specs.Form.{Took, took, stopped}
 use Rattle.forms.proofs.RealLaws.{RealTook}
 use Rattle.settings.specs.Convert.{form_meant, end_at, converted_end, convert_end, converted_kept, convert_kept}
-use Rattle.settings.specs.Loaded.{loaded_of, written_of, text_kept}
+use Rattle.settings.specs.Loaded.{loaded_of, written_of, text_kept, LoadedSettings, Written}
 use Rattle.settings.specs.SettingsText.{Settings, settings_of}
-use Rattle.settings.specs.declared.load.LoadedSettings.{LoadedSettings}
-use Rattle.settings.specs.declared.write.Written.{Written}
 use Rattle.settings.proofs.SettingsRound.{settings_real}
 
 module _ (form : ℕ) (d : List ℕ) where

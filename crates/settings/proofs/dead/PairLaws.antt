@@ -19,7 +19,7 @@ use Rattle.tables.specs.Rules.{pattern_of, no_rule}
 use Rattle.tables.specs.declared.rules.TopicRule.{TopicRule}
 use Rattle.settings.specs.Dead.{is_pair, pair_number, between_told, pair_of}
 use Rattle.settings.specs.Told.{closing_told}
-use Rattle.settings.specs.declared.read.SettingsRead.{SettingsRead}
+use Rattle.settings.specs.Kept.{SettingsRead}
 
 module _ (count later earlier : ℕ) where
   pub pair_none : earlier ≡ 0 → false ≡ is_pair count later earlier
@@ -34,7 +34,7 @@ module _ (count later earlier : ℕ) where
   unfolding is_pair
   pair_asked z h = rw (lt-ltb 0 earlier (omega (arith, z)), lt-ltb earlier later h)
 
-  pair_says : is_pair count later earlier ≡ true → (0 < earlier) × (earlier < later) × (later ≤ count)
+  pub pair_says : is_pair count later earlier ≡ true → (0 < earlier) × (earlier < later) × (later ≤ count)
   unfolding is_pair
   pair_says e =
       by (ltb 0 earlier)

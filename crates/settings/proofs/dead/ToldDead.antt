@@ -19,10 +19,9 @@ use Rattle.tables.specs.Scan.{find}
 use Rattle.tables.specs.declared.rules.TopicRule.{TopicRule}
 use Rattle.tables.proofs.covers.ReportLaws.{report_at, report_past}
 use Rattle.settings.specs.Dead.{report_told, dead_of, dead_text, dead_end, dead_kept, pair_number, pair_of, pair_text, pair_end, pair_kept}
-use Rattle.settings.specs.Kept.{settings_read, rules_from, read_of}
+use Rattle.settings.specs.Kept.{settings_read, rules_from, read_of, SettingsRead}
 use Rattle.settings.specs.SettingsText.{Settings}
 use Rattle.settings.specs.Told.{closing_told, told_room}
-use Rattle.settings.specs.declared.read.SettingsRead.{SettingsRead}
 use Rattle.settings.specs.declared.told.SettingsTold.{SettingsTold}
 use Rattle.settings.proofs.told.GivenLaws.{given, not_given}
 use Rattle.settings.proofs.told.TellLaws.{Says, says_nothing, says_all}

@@ -16,13 +16,14 @@ use Rattle.forms.specs.Chain.{number_after, word_after}
 use Rattle.forms.specs.Form.{on_took, word_form, none_form, map_form, numbered_form, renumbered}
 use Rattle.forms.specs.declared.chain.Lined.{Lined}
 use Rattle.forms.proofs.FieldRound.{word_back}
-use Rattle.forms.proofs.LineBounds.{number-value}
+use Rattle.forms.proofs.LineBounds.{number-value, number_lies, word_lies}
 use Rattle.forms.proofs.chain.ChainLaws.{took_of, Refused, pair_lined, map_lined, number_lined, number_stays, number-line, word_lined, word_stays, word_line}
 use Rattle.tables.specs.Numbers.{action_at, action_number}
 use Rattle.tables.specs.declared.rules.TopicAction.TheVariants.{Allow}
 use Rattle.rules_text.specs.RuleText.{action_form}
 use Rattle.settings.specs.Head.{form_line, match_line, lines_more}
 use Rattle.settings.specs.Kept.{head_of}
+use Rattle.settings.proofs.refusal.KnownLaws.{Known, known_line, known_form}
 use Rattle.settings.specs.SettingsText.{form_at, form_among, form_form, matching_number, matching_at, match_in, body_in, head_lines}
 
 -- the lines that the code reads, each after the one before it
@@ -132,6 +133,47 @@ module _ (s : List ℕ) where
       let zt = was_read T threshold_stays z in
       rw (eq-eqb _ _ zm) (number-value s M.next (bytes "threshold=") 2 16 (rw (eq-eqb _ _ zm) at zt))
 
+  -- and of at most 32 rules
+  rules_few : R.number ≡ 0 → R.value ≤ 32
+  unfolding number_after
+  rules_few z =
+      let zw = was_read W window_stays z in
+      rw (eq-eqb _ _ zw) (number-value s W.next (bytes "rules=") 0 32 (rw (eq-eqb _ _ zw) at z))
+
+  -- whatever refuses a line has a number that lines give, or 29
+  abbrev Fine : Lined → Type 0
+  Fine l = (l.number ≡ 0 → ⊥) → Known l.number
+
+  number_fine : (b : Lined) (line : ℕ) (key : List ℕ) (low high : ℕ) → Fine b → Fine (number_after s b line key low high)
+  unfolding number_after
+  number_fine b line key low high f =
+      let a = (number_lies s b.next key low high).answer in
+      by (eqb b.number 0) (λ t. rw t (λ z. known_line (a.real z) a.known)) (λ t. rw t f)
+
+  word_fine : (b : Lined) (line : ℕ) (key ws : List ℕ) → Fine b → Fine (word_after s b line key ws)
+  unfolding word_after
+  word_fine b line key ws f =
+      let a = (word_lies s b.next key ws).answer in
+      by (eqb b.number 0) (λ t. rw t (λ z. known_line (a.real z) a.known)) (λ t. rw t f)
+
+  form_fine : Fine F
+  unfolding form_line word_after
+  form_fine =
+      let a = (word_lies s 0 (bytes "form=") (bytes "1|2")).answer in
+      by (eqb X.number 23) (λ u. rw u (λ z. known_form)) (λ u. rw u (λ z. known_line (a.real z) a.known))
+
+  match_fine : (f : ℕ) (d : Lined) → Fine d → Fine (match_line s f d)
+  unfolding match_line
+  match_fine f d g =
+      by (eqb f 1) (λ t. rw t (word_fine d 2 (bytes "match=") (bytes "port|standard") g))
+      (λ t. rw t (by (eqb d.number 0) (λ u. rw u g) (λ u. rw u g)))
+
+  rules_fine : Fine R
+  rules_fine =
+      number_fine W (4 + K) (bytes "rules=") 0 32
+      (number_fine T (3 + K) (bytes "window=") 1000000 600000000
+      (number_fine M (2 + K) (bytes "threshold=") 2 16 (match_fine F.value D (word_fine F 1 (bytes "default=") (bytes "allow|block") form_fine))))
+
   -- the form's nest once more, line by line
   lines_lined : head_lines.read s 0 0 ≡ took_of R (form_at F.value, (action_at D.value, (matching_at M.value, (T.value, (W.value, R.value)))))
   unfolding head_lines body_in action_form
@@ -194,3 +236,12 @@ module _ {s : List ℕ} {k : ℕ} {f d m t w r : Lined} (c : Chained s k f d m t
   pub head_threshold : r.number ≡ 0 → t.value ≤ 16
   head_threshold z =
       rw (c.threshold, c.matched, c.default, c.more, c.form) (threshold_small s (rw (c.rules, c.window, c.threshold, c.matched, c.default, c.more, c.form) at z))
+
+  -- nor are there more than 32 rules
+  pub head_rules : r.number ≡ 0 → r.value ≤ 32
+  head_rules z =
+      rw (c.rules, c.window, c.threshold, c.matched, c.default, c.more, c.form) (rules_few s (rw (c.rules, c.window, c.threshold, c.matched, c.default, c.more, c.form) at z))
+
+  -- and what refuses a line has a number that lines give, or 29
+  pub head_fine : (r.number ≡ 0 → ⊥) → Known r.number
+  head_fine = rw (c.rules, c.window, c.threshold, c.matched, c.default, c.more, c.form) (rules_fine s)

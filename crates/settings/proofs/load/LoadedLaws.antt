@@ -5,11 +5,9 @@ use mathlib.Core.List.{List}
 use Rattle.forms.specs.Form.{Took, took, stopped}
 use Rattle.monitor.specs.Calls.{fresh}
 use Rattle.monitor.specs.State.{with_rules, with_settings}
-use Rattle.settings.specs.Kept.{settings_read, rules_from, read_of}
-use Rattle.settings.specs.Loaded.{monitor_of, loaded_of}
+use Rattle.settings.specs.Kept.{settings_read, rules_from, read_of, SettingsRead}
+use Rattle.settings.specs.Loaded.{monitor_of, loaded_of, LoadedSettings}
 use Rattle.settings.specs.SettingsText.{Settings, settings_of}
-use Rattle.settings.specs.declared.load.LoadedSettings.{LoadedSettings}
-use Rattle.settings.specs.declared.read.SettingsRead.{SettingsRead}
 
 -- what a load hands back, by what was read
 abbrev loaded_as : SettingsRead → LoadedSettings

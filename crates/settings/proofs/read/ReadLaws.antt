@@ -15,12 +15,9 @@ use Rattle.forms.proofs.FormRound.{many_round}
 use Rattle.forms.proofs.RealLaws.{RealTook}
 use Rattle.rules_text.specs.RuleText.{RuleText, action_form, rule_form}
 use Rattle.rules_text.proofs.RuleRound.{rule_round, rules_count}
-use Rattle.settings.specs.Kept.{head_of, rules_read, not_read, settings_read, rules_from, read_of}
+use Rattle.settings.specs.Kept.{head_of, rules_read, not_read, settings_read, rules_from, read_of, HeadLines, SettingsRead, RulesLines}
 use Rattle.settings.specs.Loaded.{table_of}
 use Rattle.settings.specs.SettingsText.{Head, form_among, form_form, match_in, body_in, head_lines, rules_after, settings_from, settings_lines, settings_form, settings_of}
-use Rattle.settings.specs.declared.head.HeadLines.{HeadLines}
-use Rattle.settings.specs.declared.read.SettingsRead.{SettingsRead}
-use Rattle.settings.specs.declared.rules.RulesLines.{RulesLines}
 use Rattle.settings.proofs.SettingsRound.{head_round, head_real, rules_real}
 
 -- the values of the lines before the rules, as the code has them

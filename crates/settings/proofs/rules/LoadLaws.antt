@@ -21,9 +21,8 @@ use Rattle.rules_text.specs.RuleGroup.{rule_at, pattern_in}
 use Rattle.rules_text.specs.RuleText.{RuleText, rule_from, given_in, rule_refusal, rule_form}
 use Rattle.rules_text.specs.declared.read.RuleLines.{RuleLines}
 use Rattle.rules_text.proofs.RuleTook.{values_in, rule_read, rule_unread}
-use Rattle.settings.specs.Kept.{rules_read, rules_stopped}
+use Rattle.settings.specs.Kept.{rules_read, rules_stopped, RulesLines}
 use Rattle.settings.specs.Loaded.{table_of}
-use Rattle.settings.specs.declared.rules.RulesLines.{RulesLines}
 use Rattle.settings.proofs.rules.TableLaws.{Brief, brief_none, brief_join, held_given, table_more}
 
 -- what is read of rules after others, with those before them
@@ -107,6 +106,11 @@ load_begin s k from lines h g e =
       rest = with_none (read_all rule_form k [] s from lines);
     }
 
+-- the same places, counted otherwise
+pub load_move : {s : List ℕ} {k from lines left line at : ℕ} {rules : List TopicRule} {n : ℕ} (left' line' : ℕ) → Loading s k from lines left line at rules n → left ≡ left' → line ≡ line'
+    → Loading s k from lines left' line' at rules n
+load_move left' line' l e f = rw (← e, ← f) l
+
 -- a turn, at the rule that is read next
 module _ {s : List ℕ} {k from lines left line at : ℕ} {rules : List TopicRule} {n : ℕ} (l : Loading s k from lines left line at rules n) (more : 0 < left)
     {r : RuleLines} (e : r ≡ rule_at s at) where
@@ -147,7 +151,7 @@ module _ {s : List ℕ} {k from lines left line at : ℕ} {rules : List TopicRul
 
     -- the rule is taken
     pub load_turn : plan.number ≡ 0 → (plan.at < n → ⊥)
-        → Loading s k from lines (left - 1) (line + 4) r.next (set rules plan.at plan.rule) plan.count
+        → Loading s k from lines (left - 1) (line + 4) r.next (set rules plan.at plan.rule) (n + 1)
     unfolding rule_refusal
     load_turn y u =
         let d = plan_last rules n p r.action r.qos_policy r.rate few de y u in
@@ -158,8 +162,8 @@ module _ {s : List ℕ} {k from lines left line at : ℕ} {rules : List TopicRul
           acc = l.acc ++ (a ∷ []);
           brief = brief_join a l.brief (accepted_length (pattern_in s r) q).1;
           table = rw (d.2, l.table, l.count, pe) (table_more l.acc a (omega (arith, few, l.count)));
-          count = rw (d.2, length-append) (omega (arith, l.count));
-          room = rw d.2 (omega (arith, l.room));
+          count = rw length-append (omega (arith, l.count));
+          room = omega (arith, l.room);
           short = omega (arith, l.short);
           rest = sym (turn_read left l.acc s at line more w) ∙ l.rest;
         }

@@ -9,14 +9,13 @@ use lib.ListN.{length, take}
 use Rattle.laws.proofs.Cases.{by}
 use Rattle.topics.specs.Patterns.{pattern_refusal}
 use Rattle.topics.proofs.patterns.PatternLaws.{accepted_length}
-use Rattle.forms.specs.Form.{Form, Took, took, stopped, FitAll, fit_none, fit_more, number_form, pair_form, map_form, test_form, many_form}
+use Rattle.forms.specs.Form.{Took, took, stopped, FitAll, fit_none, fit_more, number_form, pair_form, map_form, test_form, many_form}
 use Rattle.forms.proofs.RealLaws.{RealTook}
 use Rattle.rules_text.specs.RuleText.{RuleText, rule_in, rule_refusal, rule_form}
-use Rattle.settings.specs.Kept.{settings_read, rules_from, read_of}
+use Rattle.settings.specs.Kept.{settings_read, rules_from, read_of, SettingsRead}
 use Rattle.settings.specs.Loaded.{rule_held, table_of}
 use Rattle.settings.specs.SettingsText.{Settings, body_in, head_lines, settings_lines, settings_form, settings_of}
 use Rattle.settings.specs.Told.{settings_given}
-use Rattle.settings.specs.declared.read.SettingsRead.{SettingsRead}
 use Rattle.settings.proofs.SettingsRound.{settings_back, settings_real}
 use Rattle.settings.proofs.rules.TableLaws.{held_pattern, table_used}
 

@@ -11,12 +11,11 @@ use Rattle.lines.specs.Wrote.{Wrote}
 use Rattle.lines.proofs.put.WroteLaws.{wrote_room, wrote_then}
 use Rattle.forms.specs.Form.{Took, took, stopped}
 use Rattle.rules_text.specs.RuleText.{rule_in}
-use Rattle.settings.specs.Kept.{read_of}
+use Rattle.settings.specs.Kept.{read_of, SettingsRead}
 use Rattle.settings.specs.SettingsText.{Settings, settings_of}
 use Rattle.settings.specs.Told.{closing_told, head_told, rules_told, settings_told, told_of, told_text, told_as, told_room, in_room, told_end, kept_in, told_kept, settings_given}
-use Rattle.settings.specs.declared.read.SettingsRead.{SettingsRead}
 use Rattle.settings.specs.declared.told.SettingsTold.{SettingsTold}
-use Rattle.settings.proofs.told.GivenLaws.{Given, given, not_given}
+use Rattle.settings.proofs.told.GivenLaws.{given, not_given}
 
 -- the settings, one part after the other
 pub settings_wrote : (r : SettingsRead) {d e f : List ℕ} {at w x : ℕ} → r.rule_count ≤ 32

@@ -1,13 +1,13 @@
 -- What is written of a monitor's settings, and how long it is: the lines before the rules and then the rules (`settings_wrote`, `settings_sum`), the numbers that refuse a text (`not_formed`,
 -- `not_taken`), and the answer and the lent buffer for each way to end (`kept_refused`, `kept_short`, `kept_written`). Assumes nothing.
 use Prim.Native.Nat.{ℕ, ◌+◌, ◌≤◌, ◌<◌}
-use mathlib.Core.Path.{◌≡◌, ap}
+use mathlib.Core.Path.{◌≡◌, ap, ◌∙◌}
 use mathlib.Core.Bool.{true, false}
 use mathlib.Core.List.{List, [], ◌++◌, map}
 use native.Mathlib.Omega.{arith}
 use borrow.Author.Tests.{eq-eqb, ne_eqb, le-leb, lt-leb}
 use lib.Dec.{eqb}
-use lib.ListN.{length, take, length-append, length-map, length-take}
+use lib.ListN.{length, take, length-append, length-map}
 use Rattle.laws.proofs.Cases.{by}
 use Rattle.lines.specs.Wrote.{Wrote}
 use Rattle.lines.proofs.put.WroteLaws.{wrote_then}
@@ -15,10 +15,8 @@ use Rattle.forms.specs.Form.{pair_form, map_form, many_form, text_all}
 use Rattle.rules_text.specs.RuleText.{rule_form, rule_in}
 use Rattle.monitor.specs.State.{well_formed}
 use Rattle.monitor.specs.declared.state.MqttMonitor.{MqttMonitor}
-use Rattle.monitor.proofs.state.FormedLaws.{formed_parts}
-use Rattle.settings.specs.Loaded.{settings_text, text_refusal, unwritten, length_of, fitted, written_of, text_kept}
+use Rattle.settings.specs.Loaded.{settings_text, text_refusal, unwritten, length_of, fitted, written_of, text_kept, Written}
 use Rattle.settings.specs.SettingsText.{form_refusal, Head, head_lines, settings_lines, settings_form}
-use Rattle.settings.specs.declared.write.Written.{Written}
 
 module _ (form : ℕ) (m : MqttMonitor) where
   -- the values of the lines before the rules, and the text of the rules, as the code asks for them
@@ -28,10 +26,10 @@ module _ (form : ℕ) (m : MqttMonitor) where
   abbrev rules_text : List ℕ
   rules_text = text_all rule_form [] (map rule_in (take m.rule_count m.rules))
 
-  module _ (full : length m.rules ≡ 32) (f : well_formed m ≡ true) where
+  module _ (many : length (take m.rule_count m.rules) ≡ m.rule_count) (f : well_formed m ≡ true) where
     -- as many rules as the monitor counts
     count_known : length (map rule_in (take m.rule_count m.rules)) ≡ m.rule_count
-    count_known = simp (length-map, length-take) (omega (arith, full, (formed_parts m f).count))
+    count_known = length-map (take m.rule_count m.rules) rule_in ∙ many
 
     -- the text is the lines before the rules and then the rules
     text_parts : settings_text form m ≡ head_lines.text head_in ++ rules_text

@@ -139,5 +139,5 @@ overflow_cast-result c =
 
 pub returns : goal.returns
 unfolding rule4
-returns c = let h = ends (rw (eq-eqb _ _ c.if-rate-ne0.false, ← c.action_at-rule_action.ensures, ← c.policy_at-qos_policy.ensures) at (left_rate (goal.at.returns c).After-number_field-rate))
+returns c = let h = ends (rw (eq-eqb _ _ c.if-rate-ne0.false, ← c.action_at.ensures, ← c.policy_at.ensures) at (left_rate (goal.at.returns c).After-number_field-rate))
     refl in record { value = h.0; within = h.1.0; kept = h.1.1 }

@@ -1,13 +1,25 @@
 -- `settings::convert::convert_settings` meets its contract: the text's own refusal, with nothing written; else what the writing gave. Assumes nothing.
+use mathlib.Core.Path.{refl}
+use Rattle.std.proofs.lemmas.Result.{err_from_is_err_and}
 use Rattle.settings.specs.Convert.{end_at}
 use Rattle.settings.proofs.convert.ConvertLaws.{convert_refused, convert_ends}
+use Rattle.settings.proofs.refusal.KnownLaws.{never_0}
 use Rattle.settings.proofs.convert.convert_settings.Goals as goal
 
-pub returns-then-loaded-ne0 : goal.returns-then-loaded-ne0
-returns-then-loaded-ne0 c = let args = c.args in
-    let h = convert_refused args.form args.out.now args.text.now c.load_settings-loaded.ensures c.if-loaded-ne0.true in record { answer = h.0; buffer = h.1 }
+pub returns-in_err-loaded : goal.returns-in_err-loaded
+returns-in_err-loaded c =
+    let p = err_from_is_err_and c.from_residual.result c.from_residual.ensures.1 in
+    let h = convert_refused c.args.form c.args.out.now c.args.text.now c.in_err-loaded.ensures (never_0 c.in_err-loaded.field-0.0.refusal) in
+    record { answer = rw (p.1, p.2) h.0; buffer = h.1 }
 
-pub returns : goal.returns
+pub returns-in-Ok : goal.returns-in-Ok
 unfolding end_at
-returns c = let args = c.args in rw c.line_for.ensures ((let h = convert_ends args.form args.out.now args.text.now c.load_settings-loaded.ensures c.if-loaded-ne0.false c.form_meant.ensures
-    (c.write_settings-written.ensures.answer, c.write_settings-written.ensures.buffer) in record { answer = h.0; buffer = h.1 }))
+returns-in-Ok c =
+    let h = convert_ends c.args.form c.args.out.now c.args.text.now c.in_ok-loaded.ensures refl c.form_meant.ensures (c.in-Ok.ensures.answer, c.in-Ok.ensures.buffer) in
+    record { answer = h.0; buffer = h.1 }
+
+pub returns-in-Err : goal.returns-in-Err
+unfolding end_at
+returns-in-Err c =
+    let h = convert_ends c.args.form c.args.out.now c.args.text.now c.in_ok-loaded.ensures refl c.form_meant.ensures (c.in-Err.ensures.answer, c.in-Err.ensures.buffer) in
+    record { answer = rw c.line_for.ensures h.0; buffer = h.1 }

@@ -1,28 +1,26 @@
 -- `settings::head::head_len` meets its contract: the lengths of the lines, summed up. Assumes nothing.
 use Prim.Native.Nat.{◌+◌, ◌≤◌}
-use mathlib.Core.Path.{◌≡◌}
+use mathlib.Core.Path.{◌≡◌, ◌∙◌}
 use native.Mathlib.Omega.{arith}
-use lib.ListN.{length}
-use Rattle.settings.specs.SettingsText.{head_lines}
-use Rattle.settings.proofs.head.HeadText.{HeadTyped, head_sum}
 use borrow.Author.Rules.{rules}
+use lib.ListN.{length}
+use Rattle.settings.specs.Refused.{head_values}
+use Rattle.settings.specs.SettingsText.{head_lines}
+use Rattle.settings.proofs.head.HeadText.{head_sum}
 use Rattle.settings.proofs.head.head_len.Goals.{After-number_line_len-f}
 use Rattle.settings.proofs.head.head_len.Goals as goal
 
--- the types of the values
-typed_at_After_number_line_len_f : (c : After-number_line_len-f) → let args = c.args in HeadTyped args.threshold args.window args.rules
-typed_at_After_number_line_len_f c = record { threshold8 = search rules; window64 = search rules; rules16 = search rules }
-
-sum : (c : After-number_line_len-f) → let args = c.args in
+sum : (c : After-number_line_len-f) →
     let all =
     c.word_line_len-a.result + c.word_line_len-b.result + c.match_len-c.result + c.number_line_len-d.result + c.number_line_len-e.result
     + c.number_line_len-f.result in
-    (all ≡ length (head_lines.text (args.form, (args.default_action, (args.matching, (args.threshold, (args.window, args.rules))))))) × (all ≤ 200)
+    (all ≡ length (head_lines.text (head_values c.args.head.now))) × (all ≤ 200)
 sum c =
-    let args = c.args in
-    head_sum args.form args.default_action args.matching args.threshold args.window args.rules (typed_at_After_number_line_len_f c) c.form_place-place.ensures c.action_number-action.ensures
-    c.word_line_len-a.ensures c.word_line_len-b.ensures c.match_len-c.ensures.value c.number_line_len-d.ensures c.number_line_len-e.ensures
-    c.number_line_len-f.ensures
+    let head = c.args.head.now in
+    head_sum head.form head.default_action head.matching head.threshold head.window head.rules
+    (record { threshold8 = search rules; window64 = search rules; rules16 = search rules }) c.form_place.ensures (c.from-action.ensures ∙ c.action_number.ensures)
+    c.word_line_len-a.ensures c.word_line_len-b.ensures c.match_len-c.ensures.value (rw c.from.ensures at c.number_line_len-d.ensures) c.number_line_len-e.ensures
+    (rw c.from-2.ensures at c.number_line_len-f.ensures)
 
 pub overflow_add-result : goal.overflow_add-result
 overflow_add-result c = omega (arith, sum c)

@@ -1,102 +1,71 @@
-use mathlib.Core.List.{List}
+use Prim.Native.Nat.{◌+◌, ◌-◌, ◌*◌, ◌/◌, ◌≤◌}
 use mathlib.Core.Path.{◌≡◌, refl, sym}
-use Prim.Native.Nat.{ℕ, ◌-◌, ◌/◌, ◌≤◌, ◌<◌}
 use native.Mathlib.Omega.{arith}
+use Rattle.std.proofs.lemmas.Result.{err_from_is_err_and}
 use lib.ListN.{length, take}
 use lib.Seq.{length-take-le}
-use Rattle.tables.proofs.rules.PlanLaws.{plan_place}
+use Rattle.std.specs.Prelude.{Ok}
 use Rattle.rules_text.specs.RuleGroup.{pattern_in}
-use Rattle.rules_text.specs.declared.read.RuleLines.{RuleLines}
 use Rattle.rules_text.proofs.read.RuleLaws.{pattern_part}
-use Rattle.settings.proofs.rules.LoadLaws.{load_begin, load_stop, load_refused, load_twice, load_turn, load_end}
-use Rattle.settings.proofs.rules.read_rules.Goals.{After-read_rule-rule, Else-plan-ne0, Else-rule-ne0}
+use Rattle.settings.specs.Refused.{line_checked}
+use Rattle.settings.proofs.refusal.KnownLaws.{known_line, at_known, checked_stops, checked_goes, rule_never}
+use Rattle.settings.proofs.rules.LoadLaws.{load_begin, load_move, load_stop, load_refused, load_twice, load_turn, load_end}
+use Rattle.settings.proofs.rules.read_rules.Goals.{After-check_line}
 use Rattle.settings.proofs.rules.read_rules.Goals as goal
 
--- the text, and what was read of it
-abbrev text_at_Else_rule_ne0 : (c : Else-rule-ne0) → List ℕ
-text_at_Else_rule_ne0 c = c.args.text.now
-
-abbrev group_at_Else_rule_ne0 : (c : Else-rule-ne0) → RuleLines
-group_at_Else_rule_ne0 c = c.read_rule-rule.result
-
-abbrev group : (c : After-read_rule-rule) → RuleLines
-group c = c.read_rule-rule.result
-
--- lines are counted far below the largest number
-lines_small : (c : After-read_rule-rule) → (c.loop-left.line ≤ 1200) × ((group c).line ≤ 3)
-lines_small c = (omega (arith, c.loop-left.invariant.0.short), c.read_rule-rule.ensures.within.line)
-
 -- the rule's pattern is the first bytes of its buffer
-pattern_has : (c : Else-rule-ne0) → let buffer = c.read_rule-rule.new.pattern in
-    let long = ((group_at_Else_rule_ne0 c).pattern_to - (group_at_Else_rule_ne0 c).pattern_from) / 2 in
-    (take long buffer ≡ pattern_in (text_at_Else_rule_ne0 c) (group_at_Else_rule_ne0 c)) × (long ≤ length buffer) × (length buffer ≡ 128)
-pattern_has c =
-    pattern_part _ _ _ c.read_rule-rule.ensures.value c.if-rule-ne0.false c.loop-left.invariant.1 c.read_rule-rule.ensures.kept refl
+pattern_has : (c : After-check_line) {u : Unit} → Ok u ≡ line_checked c.read_rule-rule.result.number (c.args.lines + 4 * c.from.result + 1 + c.from-in-loop-taken.result) →
+    let buffer = c.read_rule-rule.new.pattern in
+    let long = (c.read_rule-rule.result.pattern_to - c.read_rule-rule.result.pattern_from) / 2 in
+    (take long buffer ≡ pattern_in c.args.text.now c.read_rule-rule.result) × (long ≤ length buffer) × (length buffer ≡ 128)
+pattern_has c e = pattern_part _ _ _ c.read_rule-rule.ensures.value (checked_goes _ _ e) c.loop-taken.invariant.room c.read_rule-rule.ensures.kept refl
 
--- a rule that is taken has a place in the table
-has_place : (c : Else-plan-ne0) → c.plan_rule-plan.result.at < 32
-has_place c = plan_place _ _ _ _ _ _ c.plan_rule-plan.ensures c.if-plan-ne0.false
+pub loop-taken-init : goal.loop-taken-init
+loop-taken-init c =
+    record {
+      loading = load_move _ _ (load_begin c.args.text.now _ _ _ c.requires.few c.requires.short c.free_rules-rules.ensures) (omega arith) (omega arith);
+      room = c.pattern_buffer-pattern.ensures;
+    }
 
-pub loop-left-init : goal.loop-left-init
-loop-left-init c =
-    (load_begin _ _ _ _ c.requires.few c.requires.short c.free_rules-rules.ensures, c.pattern_buffer-pattern.ensures)
-
-pub overflow_add-line : goal.overflow_add-line
-overflow_add-line c = omega (arith, lines_small (goal.at.overflow_add-line c).After-read_rule-rule)
-
-pub overflow_cast-rule : goal.overflow_cast-rule
-overflow_cast-rule c = omega (arith, lines_small (goal.at.overflow_cast-rule c).After-read_rule-rule)
-
-pub overflow_add-line-then-rule-ne0 : goal.overflow_add-line-then-rule-ne0
-overflow_add-line-then-rule-ne0 c = omega (arith, lines_small (goal.at.overflow_add-line-then-rule-ne0 c).After-read_rule-rule)
-
-pub returns-then-rule-ne0 : goal.returns-then-rule-ne0
-returns-then-rule-ne0 c =
-    load_stop c.loop-left.invariant.0 c.loop-left-test.true c.read_rule-rule.ensures.value c.if-rule-ne0.true c.rules_stopped.ensures
-
-pub overflow_sub-n : goal.overflow_sub-n
-overflow_sub-n c = omega (arith, c.read_rule-rule.ensures.within.ordered)
+pub returns-in_err-check_line : goal.returns-in_err-check_line
+returns-in_err-check_line c =
+    let p = err_from_is_err_and c.from_residual.result c.from_residual.ensures.1 in
+    let q = checked_stops _ _ c.in_err-check_line.ensures in
+    let within = c.read_rule-rule.ensures.within in
+    rw (p.1, p.2, q.1, at_known (known_line (within.real q.0) within.known), c.from.ensures, c.from-in-loop-taken.ensures)
+    (load_stop c.loop-taken.invariant.loading (omega arith) c.read_rule-rule.ensures.value q.0 refl)
 
 pub slice_bounds-pattern-end : goal.slice_bounds-pattern-end
-slice_bounds-pattern-end c = (pattern_has (goal.at.slice_bounds-pattern-end c).Else-rule-ne0).1
+slice_bounds-pattern-end c = (pattern_has (goal.at.slice_bounds-pattern-end c).After-check_line c.in_ok-check_line.ensures).1
 
 pub slice_bounds-plan_rule-end : goal.slice_bounds-plan_rule-end
-slice_bounds-plan_rule-end c = sym (length-take-le _ _ (pattern_has (goal.at.slice_bounds-plan_rule-end c).Else-rule-ne0).1)
+slice_bounds-plan_rule-end c = sym (length-take-le _ _ (pattern_has (goal.at.slice_bounds-plan_rule-end c).After-check_line c.in_ok-check_line.ensures).1)
 
-pub overflow_add-line-in-loop-left : goal.overflow_add-line-in-loop-left
-overflow_add-line-in-loop-left c = omega (arith, lines_small (goal.at.overflow_add-line-in-loop-left c).After-read_rule-rule)
+pub returns-in-Err : goal.returns-in-Err
+returns-in-Err c =
+    let e = c.in_ok-check_line.ensures in
+    rw (c.from-in-Err.ensures, c.from.ensures)
+    (load_refused c.loop-taken.invariant.loading (omega arith) c.read_rule-rule.ensures.value (checked_goes _ _ e) (pattern_has (goal.at.returns-in-Err c).After-check_line e).0
+    c.in-Err.ensures.plan (rule_never c.in-Err.refusal) refl)
 
-pub overflow_sub-left : goal.overflow_sub-left
-overflow_sub-left c = omega (arith, c.loop-left-test.true)
+pub returns-then-placement-from : goal.returns-then-placement-from
+returns-then-placement-from c =
+    let e = c.in_ok-check_line.ensures in
+    rw c.from.ensures
+    (load_twice c.loop-taken.invariant.loading (omega arith) c.read_rule-rule.ensures.value (checked_goes _ _ e)
+    (pattern_has (goal.at.returns-then-placement-from c).After-check_line e).0 c.in-Ok.ensures.plan refl (omega (arith, c.from-in-loop-taken-2.ensures)) refl)
 
-pub returns-then-plan-ne0 : goal.returns-then-plan-ne0
-returns-then-plan-ne0 c =
-    load_refused c.loop-left.invariant.0 c.loop-left-test.true c.read_rule-rule.ensures.value c.if-rule-ne0.false (pattern_has (goal.at.returns-then-plan-ne0 c).Else-rule-ne0).0
-    c.plan_rule-plan.ensures c.if-plan-ne0.true c.rules_stopped-then-plan-ne0.ensures
-
-pub overflow_cast-rule_count : goal.overflow_cast-rule_count
-overflow_cast-rule_count c = omega (arith, c.loop-left.invariant.0.room)
-
-pub returns-then-place-rule_count : goal.returns-then-place-rule_count
-returns-then-place-rule_count c =
-    load_twice c.loop-left.invariant.0 c.loop-left-test.true c.read_rule-rule.ensures.value c.if-rule-ne0.false (pattern_has (goal.at.returns-then-place-rule_count c).Else-rule-ne0).0
-    c.plan_rule-plan.ensures c.if-plan-ne0.false c.if-place-rule_count.true c.rules_stopped-then-place-rule_count.ensures
-
-pub offset_bounds-rules-place : goal.offset_bounds-rules-place
-offset_bounds-rules-place c = omega (arith, has_place (goal.at.offset_bounds-rules-place c).Else-plan-ne0)
-
-pub bounds-rules-place : goal.bounds-rules-place
-bounds-rules-place c = has_place (goal.at.bounds-rules-place c).Else-plan-ne0
-
-pub loop-left-smaller : goal.loop-left-smaller
-loop-left-smaller c = omega (arith, c.loop-left-test.true)
-
-pub loop-left-preserved : goal.loop-left-preserved
-loop-left-preserved c = (
-  load_turn c.loop-left.invariant.0 c.loop-left-test.true c.read_rule-rule.ensures.value c.if-rule-ne0.false (pattern_has (goal.at.loop-left-preserved c).Else-rule-ne0).0
-      c.plan_rule-plan.ensures c.if-plan-ne0.false (λ q. omega (arith, c.if-place-rule_count.false)),
-  (pattern_has (goal.at.loop-left-preserved c).Else-rule-ne0).2,
-)
+pub loop-taken-preserved : goal.loop-taken-preserved
+loop-taken-preserved c =
+    let e = c.in_ok-check_line.ensures in
+    let h = pattern_has (goal.at.loop-taken-preserved c).After-check_line e in
+    record {
+      loading = load_move _ _ (load_turn c.loop-taken.invariant.loading (omega arith) c.read_rule-rule.ensures.value (checked_goes _ _ e) h.0 c.in-Ok.ensures.plan refl
+          (λ q. omega (arith, q, c.from-in-loop-taken-2.ensures, c.if-placement-from.false))) (omega arith) (omega arith);
+      room = h.2;
+    }
 
 pub returns : goal.returns
-returns c = load_end c.loop-left.invariant.0 (omega (arith, c.loop-left-test.false))
+returns c =
+    let e : c.loop-taken.taken ≡ c.args.count = omega arith in
+    rw c.from-2.ensures (rw e at (load_end c.loop-taken.invariant.loading (omega arith)))

@@ -1,38 +1,39 @@
 -- `settings::write::settings_length` meets its contract: 10, then what refuses the form; else the lengths of the lines before the rules and of the rules. Assumes nothing.
 use borrow.Author.Rules.{rules}
-use mathlib.Core.Bool.{true}
-use mathlib.Core.Path.{◌≡◌, sym, ◌∙◌}
-use lib.ListN.{length, length-map}
-use borrow.Author.Tests.{not-true, not-false}
+use mathlib.Core.Bool.{true, false}
+use mathlib.Core.Path.{◌≡◌, refl}
+use native.Mathlib.Omega.{arith}
+use lib.ListN.{length, take}
+use Rattle.std.proofs.lemmas.Result.{err_from_is_err_and}
 use Rattle.monitor.specs.State.{well_formed}
 use Rattle.monitor.proofs.state.FormedLaws.{formed_parts}
+use Rattle.settings.specs.SettingsText.{form_refusal}
+use Rattle.settings.proofs.refusal.KnownLaws.{never_0}
 use Rattle.settings.proofs.write.WriteLaws.{settings_sum, not_formed, not_taken}
-use Rattle.settings.proofs.write.settings_length.Goals.{Else-not-well_formed, Start}
 use Rattle.settings.proofs.write.settings_length.Goals as goal
 
--- after the first test the monitor is well formed
-formed : (c : Else-not-well_formed) → well_formed c.args.m ≡ true
-formed c = let tested = c.well_formed-2 in sym tested.ensures ∙ not-false tested.result c.if-not-well_formed.false-raw
+pub returns-then-not-is_well_formed : goal.returns-then-not-is_well_formed
+returns-then-not-is_well_formed c = let f : well_formed c.args.m.now ≡ false = search rules in not_formed c.args.form c.args.m.now f
 
--- the table of rules is an array of 32; the state has too many fields for the checker to see it by itself
-full : (c : Start) → length c.args.m.rules ≡ 32
-full c = search rules
+pub returns-in_err-check_form : goal.returns-in_err-check_form
+returns-in_err-check_form c =
+    let f : well_formed c.args.m.now ≡ true = search rules in
+    let p = err_from_is_err_and c.from_residual.result c.from_residual.ensures.1 in
+    rw (p.1, p.2) (not_taken c.args.form c.args.m.now f c.in_err-check_form.ensures (never_0 c.in_err-check_form.field-0.0))
 
-pub returns-then-not-well_formed : goal.returns-then-not-well_formed
-returns-then-not-well_formed c =
-    let args = c.args in
-    c.unwritten.ensures ∙ not_formed args.form args.m (sym c.well_formed-2.ensures ∙ not-true c.well_formed-2.result c.if-not-well_formed.true-raw)
-
-pub returns-then-refused-ne0 : goal.returns-then-refused-ne0
-returns-then-refused-ne0 c =
-    let args = c.args in
-    c.unwritten-then-refused-ne0.ensures ∙ not_taken args.form args.m (formed (goal.at.returns-then-refused-ne0 c).Else-not-well_formed) c.form_refusal-refused.ensures c.if-refused-ne0.true
+pub counted-requires : goal.counted-requires
+counted-requires c =
+    let f : well_formed c.args.m.now ≡ true = search rules in (formed_parts c.args.m.now f).count
 
 pub rules_len-requires : goal.rules_len-requires
-rules_len-requires c = (formed_parts c.args.m (formed (goal.at.rules_len-requires c).Else-not-well_formed)).count
+rules_len-requires c =
+    let f : well_formed c.args.m.now ≡ true = search rules in
+    omega (arith, c.counted.ensures.many, (formed_parts c.args.m.now f).count)
 
 pub returns : goal.returns
 returns c =
-    let args = c.args in
-    settings_sum args.form args.m (full (goal.at.returns c).Start) (formed (goal.at.returns c).Else-not-well_formed) c.form_refusal-refused.ensures c.if-refused-ne0.false c.head_len-head.ensures.value
-    c.rules_len.ensures.value
+    let m = c.args.m.now in
+    let many : length (take m.rule_count m.rules) ≡ m.rule_count = rw c.counted.ensures.value at c.counted.ensures.many in
+    let f : well_formed m ≡ true = search rules in
+    let e : 0 ≡ form_refusal c.args.form m.matching = c.in_ok-check_form.ensures in
+    settings_sum c.args.form m many f e refl (rw c.head_in.ensures at c.head_len-head.ensures.value) (rw c.counted.ensures.value at c.rules_len.ensures.value)
