@@ -8,6 +8,7 @@ use native.Mathlib.Numerals.{add-one}
 use native.Mathlib.Omega.{arith}
 use lib.ListN.{length, take, drop, get_or, set, length-take, drop_of_length-le}
 use lib.Seq.{drop-cons, get_or-take}
+use Rattle.std.specs.List.{list_all}
 use Rattle.laws.specs.Lists.{every}
 use Rattle.laws.proofs.Tests.{both}
 
@@ -101,3 +102,9 @@ module _ {A : Type 0} (p : A → Bool) (l : List A) (n i : ℕ) (fit : n ≤ len
 
   pub front_done : n ≤ i → true ≡ every p (take n l)
   front_done h = every_done p (take n l) i inv (omega (arith, length-take n l))
+
+-- a chain's word for it
+pub list_all_every : {A : Type 0} (p : A → Bool) (l : List A) → list_all p l ≡ every p l
+unfolding every
+list_all_every p [] = refl
+list_all_every p (x ∷ l) = rw (list_all_every p l)

@@ -17,7 +17,6 @@ use Rattle.monitor.specs.declared.message.MqttMessage.{MqttMessage}
 use Rattle.monitor.specs.declared.message.MqttPacketType.TheVariants.{Publish}
 use Rattle.monitor.specs.declared.plan.Plan.{Plan}
 use Rattle.monitor.specs.declared.state.MqttMonitor.{MqttMonitor}
-use Rattle.loops.specs.declared.inspections.HeldRules.{HeldRules}
 
 -- a pattern that takes no topic below `site/+/lamp`: `site/+/room_0/#` and so on
 abbrev pub pattern_at : ℕ → List ℕ
@@ -57,10 +56,6 @@ ruled (suc k) = with_pattern (ruled k) (pattern_at k)
 -- and one last that takes every topic below `site/+/lamp`
 abbrev pub readied : ℕ → MqttMonitor
 readied n = with_pattern (ruled n) (bytes "site/+/lamp/+")
-
--- the rules of a state
-abbrev pub held_rules : MqttMonitor → HeldRules
-held_rules m = record { rule_count = m.rule_count; rules = m.rules }
 
 -- messages of one size, on topics of one width in turn
 module _ (n : ℕ) (topics : List ℕ) (width size : ℕ) where

@@ -1,4 +1,4 @@
-// One loop owns the monitor and inspects message after message: each is planned and what was decided is stored in place; the rules are made in a table alone. Rules and times
+// One loop owns the monitor and inspects message after message: each is planned and what was decided is stored in place. Rules and times
 // are made from numbers, so that the Rust can be given the same; topics are lent, since what the compiler knows of them it computes beforehand.
 ghost use Rattle.std.specs.Prelude.{◌≡◌, ◌-◌, min, max};
 ghost use Rattle.loops.specs.Inspections.{readied, loop_allowed};
@@ -11,7 +11,6 @@ pub extern "C" fn hub_loop_rules(rules: u32) -> u16
     loops::inspections::hub_loop_rules(rules)
 }
 
-// How many of so many messages of one size are allowed, under 1 to 32 rules and on lent topics of one width in turn; 0 where a topic has more than 128 bytes or none is lent whole.
 #[unsafe(no_mangle)]
 pub extern "C" fn hub_loop(rules: u32, topics: &[u8], width: u8, size: u16, messages: u32) -> u64
     ensures { result ≡ loop_allowed (min (max rules 1) 32 - 1) topics.now width size messages }

@@ -30,14 +30,13 @@ use Rattle.tables.proofs.covers.ReportLaws.{number_first, number_zero, report_at
 use Rattle.tables.proofs.rules.RuleLaws.{fine_says}
 use Rattle.tables.proofs.ScanLaws.{find-lt, find_before}
 use Rattle.monitor.specs.Covered.{pattern_at, CoversAt, cover_of, Reported, Between, Covered}
-use Rattle.monitor.specs.Covers.{covered_rules, later_name}
+use Rattle.monitor.specs.Covers.{covered_rules, later_name, LaterName}
 use Rattle.monitor.specs.Gate.{is_block, stage_of, is_topical, ruling_of, gate_after, gate_of}
 use Rattle.monitor.specs.Inspect.{inspect_refusal, inspect_with}
 use Rattle.monitor.specs.Message.{type_number, used_topic}
 use Rattle.monitor.specs.Plan.{plan_from, plan_of}
 use Rattle.monitor.specs.Runs.{Call, shipped}
 use Rattle.monitor.specs.State.{well_formed, matcher_of}
-use Rattle.monitor.specs.declared.cover_calls.LaterName.{LaterName}
 use Rattle.monitor.specs.declared.gate.Ruling.{Ruling}
 use Rattle.monitor.specs.declared.gate.Stage.{Stage}
 use Rattle.monitor.specs.declared.gate.Stage.TheVariants.{Early, NoRule, Rule}

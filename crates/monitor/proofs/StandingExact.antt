@@ -1,7 +1,7 @@
 -- Where the limit stands is exact over `inspect`, under any matcher: whatever else a Publish says, inspected at any time it is denied exactly by the kind that its topic's standing has for that time,
 -- or allowed (`kind_exact`, `allowed_exact`). A denied one leaves the standing as it was (`tries_stay`), but for a newcomer's, which gets the place of the oldest (`newcomer_stands`,
 -- `newcomer_takes`). And the tokens left are those of the bucket that it leaves (`left_tokens`). Assumes nothing.
-use mathlib.Core.Bool.{Bool, true, false, cond, not}
+use mathlib.Core.Bool.{Bool, true, false, cond}
 use mathlib.Core.List.{List}
 use mathlib.Core.Path.{◌≡◌, refl, sym, ap, ◌∙◌}
 use Prim.Native.Nat.{ℕ, ◌+◌, ◌/◌, ◌≤◌, ◌<◌}

@@ -1,1 +1,1 @@
-mod GateLaws
+pub mod GateLaws

@@ -1,3 +1,3 @@
-pub mod EndedLaws
 pub mod FormedLaws
 pub mod KeptFormed
+pub mod ToldLaws

@@ -5,7 +5,7 @@ use Rattle.std.specs.Prelude.{Bool, true, false, cond, ◌&&◌, List, [], ◌�
 use Rattle.monitor.specs.Calls.{set_storm, remove_bucket, remove_tracker}
 use Rattle.monitor.specs.Runs.{Call, Monitor}
 use Rattle.monitor.specs.State.{number_of}
-use Rattle.monitor.specs.declared.state.Called.{Called}
+use Rattle.monitor.specs.Ended.{Called}
 use Rattle.monitor.specs.declared.state.MqttMonitor.{MqttMonitor}
 
 -- a call that is no inspection: `remove_rate_bucket` and `remove_ewma_tracker` of a topic, `set_connect_storm_params` with a threshold and a window

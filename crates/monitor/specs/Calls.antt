@@ -11,12 +11,10 @@ use Rattle.tables.specs.Windows.{empty_window}
 use Rattle.tables.specs.declared.rules.QosPolicy.{QosPolicy}
 use Rattle.tables.specs.declared.rules.TopicAction.{TopicAction}
 use Rattle.tables.specs.declared.rules.TopicRule.{TopicRule}
-use Rattle.tables.specs.declared.rules.RulePlan.{RulePlan}
+use Rattle.tables.specs.Rules.{RulePlan}
 use Rattle.monitor.specs.State.{well_formed, with_rules, with_settings, with_tables, with_counters, ended}
-use Rattle.monitor.specs.declared.state.Called.{Called}
+use Rattle.monitor.specs.Ended.{Called, Outcome, Done, Refused}
 use Rattle.monitor.specs.declared.state.MqttMonitor.{MqttMonitor}
-use Rattle.monitor.specs.declared.state.Outcome.{Outcome}
-use Rattle.monitor.specs.declared.state.Outcome.TheVariants.{Done, Refused}
 
 -- a fresh monitor with a matcher of its rules and a default action: no rules, all places free, CONNECT threshold 5 in 60,000,000, ids from 1
 unfoldable pub fresh : Matching → TopicAction → MqttMonitor

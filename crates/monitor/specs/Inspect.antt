@@ -1,17 +1,19 @@
 -- `inspect` (document 01, "Order inside one inspection" and "Numbers handed back"): its refusals, and the state with the plan applied.
 -- Assumes nothing.
-use Rattle.std.specs.Prelude.{Bool, false, cond, List, ℕ, eqb, ltb, length, take, set, replicate}
+use Rattle.std.specs.Prelude.{Bool, false, cond, List, ℕ, eqb, ltb, length, take, set, replicate, Result, Ok, Err}
 use Rattle.monitor.specs.Alerts.{counted, no_alert}
 use Rattle.monitor.specs.Message.{used_topic, used_payload}
 use Rattle.monitor.specs.Plan.{plan_of}
+use Rattle.monitor.specs.Refusal.{refusal_number}
 use Rattle.monitor.specs.State.{well_formed}
 use Rattle.monitor.specs.declared.alerts.MqttInspectResult.{MqttInspectResult}
 use Rattle.monitor.specs.declared.gate.Stage.TheVariants.{Early}
-use Rattle.monitor.specs.declared.inspection.Inspected.{Inspected}
+use Rattle.monitor.specs.Ended.{Inspected, Done, Refused}
+use Rattle.monitor.specs.declared.inspection.Inspection.{Inspection}
 use Rattle.monitor.specs.declared.message.MqttMessage.{MqttMessage}
 use Rattle.monitor.specs.declared.plan.Plan.{Plan}
+use Rattle.monitor.specs.declared.refusal.Refusal.{Refusal}
 use Rattle.monitor.specs.declared.state.MqttMonitor.{MqttMonitor}
-use Rattle.monitor.specs.declared.state.Outcome.TheVariants.{Done, Refused}
 
 -- a record stored at a place of a table of n; nothing where the place is past its end
 abbrev pub stored_at : {A : Type 0} → ℕ → List A → ℕ → A → List A
@@ -59,6 +61,11 @@ done_with m p = record { outcome = Done 0; stage = p.stage; result = result_of p
 -- a message refused
 abbrev pub refused_with : MqttMonitor → ℕ → Inspected
 refused_with m number = record { outcome = Refused number; stage = Early; result = no_result; monitor = m }
+
+-- what the call tells, beside the state that it leaves
+abbrev pub inspected_as : Result Inspection Refusal → MqttMonitor → Inspected
+inspected_as (Ok i) m = record { outcome = Done 0; stage = i.stage; result = i.result; monitor = m }
+inspected_as (Err e) m = refused_with m (refusal_number e)
 
 -- `inspect`, under a matcher of the rules
 unfoldable pub inspect_with : (List ℕ → List ℕ → Bool) → MqttMonitor → MqttMessage → List ℕ → List ℕ → Inspected

@@ -4,6 +4,7 @@ pub mod Calls
 pub mod Chosen
 pub mod Covered
 pub mod Covers
+pub mod Ended
 pub mod Gate
 pub mod Inspect
 pub mod Light
@@ -12,6 +13,7 @@ pub mod Plan
 pub mod Prepared
 pub mod Ranged
 pub mod Reached
+pub mod Refusal
 pub mod Runs
 pub mod Sound
 pub mod Standing

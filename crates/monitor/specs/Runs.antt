@@ -7,7 +7,7 @@ use Rattle.monitor.specs.Inspect.{inspect_with}
 use Rattle.monitor.specs.Message.{used_topic, used_payload}
 use Rattle.monitor.specs.State.{matcher_of, number_of}
 use Rattle.monitor.specs.declared.alerts.MqttInspectResult.{MqttInspectResult}
-use Rattle.monitor.specs.declared.inspection.Inspected.{Inspected}
+use Rattle.monitor.specs.Ended.{Inspected}
 use Rattle.monitor.specs.declared.message.MqttMessage.{MqttMessage}
 use Rattle.monitor.specs.declared.state.MqttMonitor.{MqttMonitor}
 

@@ -1,7 +1,7 @@
 -- Where the limit stands for a Publish of a topic: what `inspect` would do with it, at every time, if nothing else came before it. What the message says beside its topic does not count
 -- (proofs/StandingExact.antt, `publish_gate`), so one Publish stands for all of them.
 -- Assumes nothing.
-use Rattle.std.specs.Prelude.{Bool, true, cond, List, ℕ, ltb, length}
+use Rattle.std.specs.Prelude.{Bool, true, cond, List, ℕ, ltb, length, Result, Ok, Err}
 use Rattle.tables.specs.Identity.{id_of}
 use Rattle.tables.specs.Standing.{opens, prospect_in}
 use Rattle.tables.specs.declared.buckets.RateDecision.{RateDecision}
@@ -10,13 +10,29 @@ use Rattle.tables.specs.declared.standing.Opening.{Opening}
 use Rattle.tables.specs.declared.standing.Opening.TheVariants.{Never, From}
 use Rattle.tables.specs.declared.standing.Prospect.{Prospect}
 use Rattle.monitor.specs.Plan.{spent_of, limiter_kind, gate_in}
+use Rattle.monitor.specs.Refusal.{refusal_number}
 use Rattle.monitor.specs.State.{well_formed, matcher_of}
 use Rattle.monitor.specs.declared.gate.Gate.{Gate}
 use Rattle.monitor.specs.declared.message.MqttMessage.{MqttMessage}
 use Rattle.monitor.specs.declared.message.MqttPacketType.TheVariants.{Publish}
-use Rattle.monitor.specs.declared.standing.Left.{Left}
-use Rattle.monitor.specs.declared.standing.Outlook.{Outlook}
+use Rattle.monitor.specs.declared.refusal.Refusal.{Refusal}
+use Rattle.monitor.specs.declared.standing.Left.{Left as LeftHere}
+use Rattle.monitor.specs.declared.standing.Outlook.{Outlook as OutlookHere}
 use Rattle.monitor.specs.declared.state.MqttMonitor.{MqttMonitor}
+
+-- refused by a number above 0; else a Publish is denied by `kind` before the opening and allowed from it on; `rate` above 0: the limiter counts it
+pub record Outlook : Type 0 where
+  pub number : ℕ
+  pub kind : ℕ
+  pub rate : ℕ
+  pub opening : Opening
+
+-- what a Publish at a time would leave: refused by a number above 0; else the kind that denies it, 0 where it passes, the rate, and the tokens left
+pub record Left : Type 0 where
+  pub number : ℕ
+  pub kind : ℕ
+  pub rate : ℕ
+  pub tokens : ℕ
 
 -- a Publish: of what it says only its type is asked
 abbrev pub a_publish : MqttMessage
@@ -31,7 +47,7 @@ a_publish =
       timestamp_ok = true;
     }
 
--- refused by a number above 0; else a Publish is denied by `kind` before the opening and allowed from it on; `rate` above 0: the limiter counts it
+-- the same, from its four fields
 abbrev pub stands_at : ℕ → ℕ → ℕ → Opening → Outlook
 stands_at number kind rate opening = record { number = number; kind = kind; rate = rate; opening = opening }
 
@@ -72,3 +88,12 @@ left_by g m topic t =
 unfoldable pub left_in : MqttMonitor → List ℕ → ℕ → Left
 left_in m topic t =
     cond (well_formed m) (cond (ltb 128 (length topic)) (leaves 9 0 0 0) (left_by (gate_in (matcher_of m) m a_publish topic) m topic t)) (leaves 10 0 0 0)
+
+-- what the two calls tell
+abbrev pub told_outlook : Result OutlookHere Refusal → Outlook
+told_outlook (Ok o) = stands_at 0 o.kind o.rate o.opening
+told_outlook (Err e) = stands_at (refusal_number e) 0 0 Never
+
+abbrev pub told_left : Result LeftHere Refusal → Left
+told_left (Ok l) = leaves 0 l.kind l.rate l.tokens
+told_left (Err e) = leaves (refusal_number e) 0 0 0

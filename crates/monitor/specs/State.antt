@@ -12,9 +12,7 @@ use Rattle.tables.specs.Rules.{rule_fine}
 use Rattle.tables.specs.Trackers.{tracker_fine}
 use Rattle.tables.specs.Windows.{window_fine}
 use Rattle.monitor.specs.declared.state.MqttMonitor.{MqttMonitor}
-use Rattle.monitor.specs.declared.state.Outcome.{Outcome}
-use Rattle.monitor.specs.declared.state.Outcome.TheVariants.{Done, Refused}
-use Rattle.monitor.specs.declared.state.Called.{Called}
+use Rattle.monitor.specs.Ended.{Outcome, Done, Refused, Called}
 
 -- not a state that no call hands out: at most 32 rules, each live with a pattern that `add_rule` takes, and no live record with a prefix length over 32
 -- or a window count over 16

@@ -1,19 +1,22 @@
 // The gate: what rules, message and topic alone decide (document 01, "Order inside one inspection"). It asks no table.
-ghost use Rattle.std.specs.Prelude.{cond, not, ◌&&◌, ◌≡◌, eqb, ltb};
+ghost use Rattle.std.specs.Prelude.{not, ◌&&◌, ◌≡◌, min, eqb};
 ghost use Rattle.topics.specs.Matching.{matches_by};
 ghost use Rattle.topics.specs.Names.{is_broad, starts_with_dollar, bad_publish};
+ghost use Rattle.tables.specs.Rules.{first_rule};
+ghost use Rattle.tables.specs.Scan.{placed};
 ghost use Rattle.monitor.specs.Message.{type_number};
-ghost use Rattle.monitor.specs.Gate.{is_block, ruled_by, ruled_by_default, ruling_of, stage_of, ends_early, denied_by, goes_on, gate_after, is_topical, gate_of};
+ghost use Rattle.monitor.specs.Gate.{is_block, ruled_by, ruled_by_default, stage_of, ends_early, denied_by, goes_on, gate_after, is_topical};
 
-use crate::message::{MqttMessage, type_number};
-use tables::rules::{QosPolicy, RULES, TopicAction, TopicRule, check_qos_policy, places, takes};
+use crate::message::{MqttMessage, MqttPacketType};
+use crate::state::MqttMonitor;
+use tables::rules::{QosPolicy, RULES, TopicAction, TopicRule, places};
 use topics::matching::Matching;
 use topics::names::{
     contains_invalid_publish_char, is_broad_wildcard_subscribe, starts_with_dollar,
 };
 
 // How far a message came in the order of one inspection: it ended before rule choice, no rule took its topic, or the rule at a place did.
-#[derive(Clone, Copy)]
+#[derive(Clone, Copy, Debug, PartialEq, Eq)]
 pub enum Stage {
     Early,
     NoRule,
@@ -21,7 +24,7 @@ pub enum Stage {
 }
 
 // What the first matching rule says; where there is none, the default with any QoS and no rate.
-#[derive(Clone, Copy)]
+#[derive(Clone, Copy, Debug, PartialEq, Eq)]
 pub struct Ruling {
     pub found: bool,
     pub at: usize,
@@ -31,7 +34,7 @@ pub struct Ruling {
 }
 
 // `denial`: the kind that denies, 0 for none. `rate` above 0: the limiter is asked. `feeds`: the tracker is.
-#[derive(Clone, Copy)]
+#[derive(Clone, Copy, Debug, PartialEq, Eq)]
 pub struct Gate {
     pub stage: Stage,
     pub denial: u32,
@@ -41,16 +44,14 @@ pub struct Gate {
     pub feeds: bool,
 }
 
-fn ruled_by(rule: TopicRule, at: usize) -> Ruling
-    ensures { result ≡ ruled_by rule at }
+fn ruled_by(rule: &TopicRule, at: usize) -> Ruling
+    ensures { result ≡ ruled_by rule.now at }
 {
-    let action = rule.action;
-    let qos_policy = rule.qos_policy;
     Ruling {
         found: true,
         at,
-        action,
-        qos_policy,
+        action: rule.action,
+        qos_policy: rule.qos_policy,
         rate: rule.max_rate_per_sec,
     }
 }
@@ -67,44 +68,34 @@ fn ruled_by_default(action: TopicAction, at: usize) -> Ruling
     }
 }
 
-// The first matching rule, else the default. The search hands over where it finds: a second read of the table would copy it.
-fn rule_for(
-    rules: [TopicRule; RULES],
-    count: u16,
-    default_action: TopicAction,
-    matching: Matching,
+// The place of the first rule that takes a topic.
+fn first_rule(
+    rules: &[TopicRule; RULES],
+    count: usize,
     topic: &[u8],
-) -> Ruling
-    ensures { result ≡ ruling_of (matches_by matching) rules count default_action topic.now }
+    matching: Matching,
+) -> Option<usize>
+    ensures { result ≡ placed (min count 32) (first_rule (matches_by matching) topic.now rules.now count) }
 {
-    let n = places(count as usize);
-    let mut i = 0;
-    while i < n {
-        let rule = rules[i];
-        if takes(rule, topic, matching) {
-            return ruled_by(rule, i);
-        }
-        i += 1;
-    }
-    ruled_by_default(default_action, i)
+    rules[..places(count)]
+        .iter()
+        .position(|rule| rule.takes(topic, matching))
 }
 
 fn is_block(action: TopicAction) -> bool
     ensures { result ≡ is_block action }
 {
-    match action {
-        TopicAction::Allow => false,
-        TopicAction::Block => true,
-    }
+    action == TopicAction::Block
 }
 
-fn stage_of(ruling: Ruling) -> Stage
-    ensures { result ≡ stage_of ruling }
+fn stage_of(ruling: &Ruling) -> Stage
+    ensures { result ≡ stage_of ruling.now }
 {
     if ruling.found {
-        return Stage::Rule(ruling.at);
+        Stage::Rule(ruling.at)
+    } else {
+        Stage::NoRule
     }
-    Stage::NoRule
 }
 
 fn ends_early(denial: u32) -> Gate
@@ -120,12 +111,11 @@ fn ends_early(denial: u32) -> Gate
     }
 }
 
-fn denied_by(denial: u32, broad: bool, ruling: Ruling) -> Gate
-    ensures { result ≡ denied_by denial broad ruling }
+fn denied_by(denial: u32, broad: bool, ruling: &Ruling) -> Gate
+    ensures { result ≡ denied_by denial broad ruling.now }
 {
-    let stage = stage_of(ruling);
     Gate {
-        stage,
+        stage: stage_of(ruling),
         denial,
         broad,
         qos: false,
@@ -134,146 +124,105 @@ fn denied_by(denial: u32, broad: bool, ruling: Ruling) -> Gate
     }
 }
 
-// Types whose topic is looked at: Publish, Subscribe, Unsubscribe.
-fn is_topical(number: u8) -> bool
-    ensures { result ≡ is_topical number }
+// Types whose topic is looked at.
+fn is_topical(packet_type: MqttPacketType) -> bool
+    ensures { result ≡ is_topical (type_number packet_type) }
 {
-    if number == 3 {
-        return true;
-    }
-    if number == 8 {
-        return true;
-    }
-    number == 10
+    matches!(
+        packet_type,
+        MqttPacketType::Publish | MqttPacketType::Subscribe | MqttPacketType::Unsubscribe
+    )
 }
 
 // Kind 9.
-fn is_bad_publish(number: u8, topic: &[u8]) -> bool
-    ensures { result ≡ (eqb number 3 && bad_publish topic.now) }
+fn is_bad_publish(packet_type: MqttPacketType, topic: &[u8]) -> bool
+    ensures { result ≡ (eqb (type_number packet_type) 3 && bad_publish topic.now) }
 {
-    if number != 3 {
-        return false;
-    }
-    contains_invalid_publish_char(topic)
+    packet_type == MqttPacketType::Publish && contains_invalid_publish_char(topic)
 }
 
 // Kind 11.
-fn is_broad_subscribe(number: u8, topic: &[u8]) -> bool
-    ensures { result ≡ (eqb number 8 && is_broad topic.now) }
+fn is_broad_subscribe(packet_type: MqttPacketType, topic: &[u8]) -> bool
+    ensures { result ≡ (eqb (type_number packet_type) 8 && is_broad topic.now) }
 {
-    if number != 8 {
-        return false;
-    }
-    is_broad_wildcard_subscribe(topic)
+    packet_type == MqttPacketType::Subscribe && is_broad_wildcard_subscribe(topic)
 }
 
 // A rule takes the topic and allows it.
-fn is_allowed(ruling: Ruling) -> bool
-    ensures { result ≡ (ruling.found && not (is_block ruling.action)) }
+fn is_allowed(ruling: &Ruling) -> bool
+    ensures { result ≡ (ruling.now.found && not (is_block ruling.now.action)) }
 {
-    if !ruling.found {
-        return false;
-    }
-    let action = ruling.action;
-    !is_block(action)
+    ruling.found && !is_block(ruling.action)
 }
 
 // Kind 10: a Subscribe with a leading dollar and no matching Allow rule.
-fn is_reserved(number: u8, topic: &[u8], ruling: Ruling) -> bool
-    ensures { result ≡ (eqb number 8 && starts_with_dollar topic.now && not (ruling.found && not (is_block ruling.action))) }
+fn is_reserved(packet_type: MqttPacketType, topic: &[u8], ruling: &Ruling) -> bool
+    ensures { result ≡ (eqb (type_number packet_type) 8 && starts_with_dollar topic.now && not (ruling.now.found && not (is_block ruling.now.action))) }
 {
-    if number != 8 {
-        return false;
-    }
-    if !starts_with_dollar(topic) {
-        return false;
-    }
-    !is_allowed(ruling)
+    packet_type == MqttPacketType::Subscribe && starts_with_dollar(topic) && !is_allowed(ruling)
 }
 
-// The rate that is asked of the limiter, 0 for none: a Publish asks it.
-fn rate_of(number: u8, rate: u16) -> u16
-    ensures { result ≡ cond (eqb number 3) rate 0 }
+// Not denied by rules: a Publish asks the limiter for the rule's rate, and with a payload feeds the tracker.
+fn goes_on(msg: &MqttMessage, broad: bool, ruling: &Ruling) -> Gate
+    ensures { result ≡ goes_on msg.now broad ruling.now }
 {
-    if number == 3 {
-        return rate;
-    }
-    0
-}
-
-// Whether the tracker is fed: a Publish with a payload feeds it.
-fn feeds_tracker(number: u8, payload_len: u16) -> bool
-    ensures { result ≡ (eqb number 3 && ltb 0 payload_len) }
-{
-    if number != 3 {
-        return false;
-    }
-    0 < payload_len
-}
-
-// Not denied by rules.
-fn goes_on(msg: MqttMessage, number: u8, broad: bool, ruling: Ruling) -> Gate
-    requires { number ≡ type_number msg.packet_type }
-    ensures { result ≡ goes_on msg broad ruling }
-{
-    let policy = ruling.qos_policy;
-    let actual = msg.qos;
-    let stage = stage_of(ruling);
-    let qos = !check_qos_policy(policy, actual);
-    let rate = rate_of(number, ruling.rate);
-    let feeds = feeds_tracker(number, msg.payload_len);
+    let publishes = msg.packet_type == MqttPacketType::Publish;
     Gate {
-        stage,
+        stage: stage_of(ruling),
         denial: 0,
         broad,
-        qos,
-        rate,
-        feeds,
+        qos: !ruling.qos_policy.takes(msg.qos),
+        rate: if publishes { ruling.rate } else { 0 },
+        feeds: publishes && msg.payload_len > 0,
     }
 }
 
 // After rule choice, in the document's order: 11 and on, 10, 3, then what is asked of the tables.
-fn gate_after(msg: MqttMessage, number: u8, topic: &[u8], ruling: Ruling) -> Gate
-    requires { number ≡ type_number msg.packet_type }
-    ensures { result ≡ gate_after msg topic.now ruling }
+#[tactic(auto, unfolding(crate::specs::Gate::gate_after))]
+fn gate_after(msg: &MqttMessage, topic: &[u8], ruling: &Ruling) -> Gate
+    ensures { result ≡ gate_after msg.now topic.now ruling.now }
 {
-    let broad = is_broad_subscribe(number, topic);
-    if is_reserved(number, topic, ruling) {
+    let broad = is_broad_subscribe(msg.packet_type, topic);
+    if is_reserved(msg.packet_type, topic, ruling) {
         return denied_by(10, broad, ruling);
     }
-    let action = ruling.action;
-    if is_block(action) {
+    if is_block(ruling.action) {
         return denied_by(3, broad, ruling);
     }
-    goes_on(msg, number, broad, ruling)
+    goes_on(msg, broad, ruling)
 }
 
-// The gate, in the document's order: other types end; an empty topic is 2; a Publish with zero, `+` or `#` is 9; then the rules decide.
-pub fn gate_for(
-    rules: [TopicRule; RULES],
-    count: u16,
-    default_action: TopicAction,
-    matching: Matching,
-    msg: MqttMessage,
-    topic: &[u8],
-) -> Gate
-    ensures { result ≡ gate_of (matches_by matching) rules count default_action msg topic.now }
-{
-    let packet_type = msg.packet_type;
-    let number = type_number(packet_type);
-    if !is_topical(number) {
-        return ends_early(0);
+impl MqttMonitor {
+    ghost use Rattle.monitor.specs.Gate.{ruling_of};
+    ghost use Rattle.monitor.specs.Plan.{gate_in};
+    ghost use Rattle.monitor.specs.State.{matcher_of};
+
+    // The first matching rule, else the default.
+    #[tactic(auto, unfolding(crate::specs::Gate::ruling_of))]
+    fn ruling_for(&self, topic: &[u8]) -> Ruling
+        ensures { result ≡ ruling_of (matcher_of self.now) self.now.rules self.now.rule_count self.now.default_action topic.now }
+    {
+        let count = usize::from(self.rule_count);
+        match first_rule(&self.rules, count, topic, self.matching) {
+            Some(at) => ruled_by(&self.rules[at], at),
+            None => ruled_by_default(self.default_action, places(count)),
+        }
     }
-    if topic.len() == 0 {
-        return ends_early(2);
+
+    /// The gate of a message with its used topic, in the document's order: other types end; an empty topic is 2; a Publish with zero, `+` or `#` is 9; then the rules decide.
+    #[tactic(auto, unfolding(crate::specs::Gate::gate_of))]
+    pub fn gate_for(&self, msg: &MqttMessage, topic: &[u8]) -> Gate
+        ensures { result ≡ gate_in (matcher_of self.now) self.now msg.now topic.now }
+    {
+        if !is_topical(msg.packet_type) {
+            return ends_early(0);
+        }
+        if topic.is_empty() {
+            return ends_early(2);
+        }
+        if is_bad_publish(msg.packet_type, topic) {
+            return ends_early(9);
+        }
+        gate_after(msg, topic, &self.ruling_for(topic))
     }
-    if is_bad_publish(number, topic) {
-        return ends_early(9);
-    }
-    gate_after(
-        msg,
-        number,
-        topic,
-        rule_for(rules, count, default_action, matching, topic),
-    )
 }

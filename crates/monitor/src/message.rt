@@ -10,27 +10,28 @@ pub const TOPIC_MAX: usize = 128;
 
 pub const PAYLOAD_MAX: usize = 256;
 
-#[derive(Clone, Copy)]
+// Each with its number in MQTT.
+#[derive(Clone, Copy, Debug, PartialEq, Eq)]
 pub enum MqttPacketType {
-    Connect,
-    ConnAck,
-    Publish,
-    PubAck,
-    PubRec,
-    PubRel,
-    PubComp,
-    Subscribe,
-    SubAck,
-    Unsubscribe,
-    UnsubAck,
-    PingReq,
-    PingResp,
-    Disconnect,
-    Auth,
+    Connect = 1,
+    ConnAck = 2,
+    Publish = 3,
+    PubAck = 4,
+    PubRec = 5,
+    PubRel = 6,
+    PubComp = 7,
+    Subscribe = 8,
+    SubAck = 9,
+    Unsubscribe = 10,
+    UnsubAck = 11,
+    PingReq = 12,
+    PingResp = 13,
+    Disconnect = 14,
+    Auth = 15,
 }
 
 // `payload_len` is the size, which feeds the tracker; `payload_inspectable_len` is the claimed length of the lent payload, which is hashed.
-#[derive(Clone, Copy)]
+#[derive(Clone, Copy, Debug, PartialEq, Eq)]
 pub struct MqttMessage {
     pub packet_type: MqttPacketType,
     pub topic_len: u8,
@@ -41,74 +42,32 @@ pub struct MqttMessage {
     pub timestamp_ok: bool,
 }
 
-// A packet type's number in MQTT: the tests of the gate are on numbers.
+// A packet type's number in MQTT.
 pub fn type_number(packet_type: MqttPacketType) -> u8
     ensures { result ≡ type_number packet_type }
 {
-    match packet_type {
-        MqttPacketType::Connect => 1,
-        MqttPacketType::ConnAck => 2,
-        MqttPacketType::Publish => 3,
-        MqttPacketType::PubAck => 4,
-        MqttPacketType::PubRec => 5,
-        MqttPacketType::PubRel => 6,
-        MqttPacketType::PubComp => 7,
-        MqttPacketType::Subscribe => 8,
-        MqttPacketType::SubAck => 9,
-        MqttPacketType::Unsubscribe => 10,
-        MqttPacketType::UnsubAck => 11,
-        MqttPacketType::PingReq => 12,
-        MqttPacketType::PingResp => 13,
-        MqttPacketType::Disconnect => 14,
-        MqttPacketType::Auth => 15,
-    }
+    packet_type as u8
 }
 
-// The packet type of a number, 1 to 15.
+// The packet type of a number, 1 to 15: promised for every number, so no `TryFrom`.
 pub fn type_at(k: u64) -> MqttPacketType
     ensures { result ≡ type_at k }
 {
-    if k == 1 {
-        return MqttPacketType::Connect;
+    match k {
+        1 => MqttPacketType::Connect,
+        2 => MqttPacketType::ConnAck,
+        3 => MqttPacketType::Publish,
+        4 => MqttPacketType::PubAck,
+        5 => MqttPacketType::PubRec,
+        6 => MqttPacketType::PubRel,
+        7 => MqttPacketType::PubComp,
+        8 => MqttPacketType::Subscribe,
+        9 => MqttPacketType::SubAck,
+        10 => MqttPacketType::Unsubscribe,
+        11 => MqttPacketType::UnsubAck,
+        12 => MqttPacketType::PingReq,
+        13 => MqttPacketType::PingResp,
+        14 => MqttPacketType::Disconnect,
+        _ => MqttPacketType::Auth,
     }
-    if k == 2 {
-        return MqttPacketType::ConnAck;
-    }
-    if k == 3 {
-        return MqttPacketType::Publish;
-    }
-    if k == 4 {
-        return MqttPacketType::PubAck;
-    }
-    if k == 5 {
-        return MqttPacketType::PubRec;
-    }
-    if k == 6 {
-        return MqttPacketType::PubRel;
-    }
-    if k == 7 {
-        return MqttPacketType::PubComp;
-    }
-    if k == 8 {
-        return MqttPacketType::Subscribe;
-    }
-    if k == 9 {
-        return MqttPacketType::SubAck;
-    }
-    if k == 10 {
-        return MqttPacketType::Unsubscribe;
-    }
-    if k == 11 {
-        return MqttPacketType::UnsubAck;
-    }
-    if k == 12 {
-        return MqttPacketType::PingReq;
-    }
-    if k == 13 {
-        return MqttPacketType::PingResp;
-    }
-    if k == 14 {
-        return MqttPacketType::Disconnect;
-    }
-    MqttPacketType::Auth
 }

@@ -1,135 +1,108 @@
 // Calls on the rules (document 01, "Numbers handed back"; 000 `add_rule`, `remove_rule`, `swap_rules`, `clear_rules`, `validate_rules`). Where a new rule goes is decided
 // by `tables::rules::plan_rule`, from the table alone.
-ghost use Rattle.std.specs.Prelude.{◌≡◌, ◌-◌, ◌≤◌, ◌<◌, set};
-ghost use Rattle.monitor.specs.State.{with_rules};
-ghost use Rattle.monitor.specs.Calls.{shadows_in, add_rule, without, remove_rule, swap_rules, clear_rules, validate_rules};
+ghost use Rattle.std.specs.Prelude.{◌≡◌, ◌<◌, ◌≤◌};
+ghost use Rattle.monitor.specs.Calls.{without};
 
-use crate::state::{Called, MqttMonitor, Outcome, done, free_rules, refused, well_formed};
-use tables::rules::{
-    QosPolicy, RULES, TopicAction, TopicRule, empty_rule, plan_rule, shadow_count,
-};
+use crate::refusal::Refusal;
+use crate::state::{MqttMonitor, free_rules};
+use tables::rules::{QosPolicy, RULES, TopicAction, TopicRule, plan_rule, shadow_count};
 
-// A rule is stored; the shadow count is of the table after it.
-fn stored(m: MqttMonitor, at: usize, rule: TopicRule, count: u16) -> Called
-    requires { at < 32 }
-    ensures { result ≡ record { outcome = Outcome.Done (shadows_in (with_rules m (set m.rules at rule) count)); monitor = with_rules m (set m.rules at rule) count } }
-{
-    let mut next = m;
-    next.rules[at] = rule;
-    next.rule_count = count;
-    let rules = next.rules;
-    done(next, shadow_count(rules, count as usize))
-}
-
-// Adds a rule, or changes the settings of the one with its pattern; success hands back the shadow count.
-pub fn add_rule(
-    m: MqttMonitor,
-    pattern: &[u8],
-    action: TopicAction,
-    qos_policy: QosPolicy,
-    max_rate_per_sec: u16,
-) -> Called
-    ensures { result ≡ add_rule m pattern.now action qos_policy max_rate_per_sec }
-{
-    if !well_formed(m) {
-        return refused(m, 10);
-    }
-    let rules = m.rules;
-    let plan = plan_rule(
-        rules,
-        m.rule_count,
-        pattern,
-        action,
-        qos_policy,
-        max_rate_per_sec,
-    );
-    if plan.number != 0 {
-        return refused(m, plan.number);
-    }
-    let rule = plan.rule;
-    stored(m, plan.at, rule, plan.count)
-}
-
-// The rules without the one at a place: later ones move up, and the last place is free.
-fn without(rules: [TopicRule; RULES], at: usize, count: usize) -> [TopicRule; RULES]
+// The rule at a place goes: later ones move up, and the last place is free.
+#[tactic(auto, unfolding(crate::specs::Calls::without))]
+fn take_out(rules: &mut [TopicRule; RULES], at: usize, count: usize)
     requires { (at < count) × (count ≤ 32) }
-    ensures { result ≡ without rules at count }
+    ensures { rules.new ≡ without rules.old at count }
 {
-    let after = count - 1 - at;
-    let mut left = rules;
-    let mut i = 0;
-    while i < after {
-        let rule = rules[at + 1 + i];
-        left[at + i] = rule;
-        i += 1;
-    }
-    let free = empty_rule();
-    left[at + i] = free;
-    left
+    rules.copy_within(at + 1..count, at);
+    rules[count - 1] = TopicRule::FREE;
 }
 
-// Removes the rule at an index; 9 where there is none.
-pub fn remove_rule(m: MqttMonitor, index: usize) -> Called
-    ensures { result ≡ remove_rule m index }
-{
-    if !well_formed(m) {
-        return refused(m, 10);
-    }
-    let count = m.rule_count as usize;
-    if count <= index {
-        return refused(m, 9);
-    }
-    let rules = m.rules;
-    let left = without(rules, index, count);
-    let mut next = m;
-    next.rules = left;
-    next.rule_count = m.rule_count - 1;
-    done(next, 0)
-}
+impl MqttMonitor {
+    ghost use Rattle.monitor.specs.Calls.{shadows_in, add_rule, remove_rule, swap_rules, clear_rules, validate_rules};
+    ghost use Rattle.monitor.specs.Ended.{told_value, told_done};
 
-// Exchanges two rules, and so their order; 9 where either is not there.
-pub fn swap_rules(m: MqttMonitor, a: usize, b: usize) -> Called
-    ensures { result ≡ swap_rules m a b }
-{
-    if !well_formed(m) {
-        return refused(m, 10);
+    // How many rules an earlier one shadows.
+    fn shadows(&self) -> u16
+        ensures { result ≡ shadows_in self.now }
+    {
+        shadow_count(&self.rules, usize::from(self.rule_count))
     }
-    let count = m.rule_count as usize;
-    if count <= a {
-        return refused(m, 9);
-    }
-    if count <= b {
-        return refused(m, 9);
-    }
-    let first = m.rules[a];
-    let second = m.rules[b];
-    let mut next = m;
-    next.rules[a] = second;
-    next.rules[b] = first;
-    done(next, 0)
-}
 
-// All places become free.
-pub fn clear_rules(m: MqttMonitor) -> Called
-    ensures { result ≡ clear_rules m }
-{
-    if !well_formed(m) {
-        return refused(m, 10);
+    // Adds a rule, or changes the settings of the one with its pattern; success hands back the shadow count.
+    #[tactic(auto, unfolding(crate::specs::Calls::add_rule))]
+    pub fn add_rule(
+        &mut self,
+        pattern: &[u8],
+        action: TopicAction,
+        qos_policy: QosPolicy,
+        max_rate_per_sec: u16,
+    ) -> Result<u16, Refusal>
+        ensures outcome { told_value result ≡ (add_rule self.old pattern.now action qos_policy max_rate_per_sec).outcome }
+        ensures state { self.new ≡ (add_rule self.old pattern.now action qos_policy max_rate_per_sec).monitor }
+    {
+        self.checked()?;
+        let placement = plan_rule(
+            &self.rules,
+            self.rule_count,
+            pattern,
+            action,
+            qos_policy,
+            max_rate_per_sec,
+        )?;
+        self.rules[placement.at] = placement.rule;
+        self.rule_count = placement.count;
+        Ok(self.shadows())
     }
-    let rules = free_rules();
-    let mut next = m;
-    next.rules = rules;
-    next.rule_count = 0;
-    done(next, 0)
-}
 
-// The shadow count of the rules as they are.
-pub fn validate_rules(m: MqttMonitor) -> Outcome
-    ensures { result ≡ validate_rules m }
-{
-    if !well_formed(m) {
-        return Outcome::Refused(10);
+    // Removes the rule at an index; 9 where there is none.
+    #[tactic(auto, unfolding(crate::specs::Calls::remove_rule, crate::specs::State::well_formed))]
+    pub fn remove_rule(&mut self, index: usize) -> Result<(), Refusal>
+        ensures outcome { told_done result ≡ (remove_rule self.old index).outcome }
+        ensures state { self.new ≡ (remove_rule self.old index).monitor }
+    {
+        self.checked()?;
+        let count = usize::from(self.rule_count);
+        if index >= count {
+            return Err(Refusal::BadInput);
+        }
+        take_out(&mut self.rules, index, count);
+        self.rule_count -= 1;
+        Ok(())
     }
-    let rules = m.rules;
-    Outcome::Done(shadow_count(rules, m.rule_count as usize))
+
+    // Exchanges two rules, and so their order; 9 where either is not there.
+    #[tactic(auto, unfolding(crate::specs::Calls::swap_rules, crate::specs::State::well_formed))]
+    pub fn swap_rules(&mut self, a: usize, b: usize) -> Result<(), Refusal>
+        ensures outcome { told_done result ≡ (swap_rules self.old a b).outcome }
+        ensures state { self.new ≡ (swap_rules self.old a b).monitor }
+    {
+        self.checked()?;
+        let count = usize::from(self.rule_count);
+        if a >= count || b >= count {
+            return Err(Refusal::BadInput);
+        }
+        self.rules.swap(a, b);
+        Ok(())
+    }
+
+    // All places become free.
+    #[tactic(auto, unfolding(crate::specs::Calls::clear_rules))]
+    pub fn clear_rules(&mut self) -> Result<(), Refusal>
+        ensures outcome { told_done result ≡ (clear_rules self.old).outcome }
+        ensures state { self.new ≡ (clear_rules self.old).monitor }
+    {
+        self.checked()?;
+        self.rules = free_rules();
+        self.rule_count = 0;
+        Ok(())
+    }
+
+    // The shadow count of the rules as they are.
+    #[tactic(auto, unfolding(crate::specs::Calls::validate_rules))]
+    pub fn validate_rules(&self) -> Result<u16, Refusal>
+        ensures { told_value result ≡ validate_rules self.now }
+    {
+        self.checked()?;
+        Ok(self.shadows())
+    }
 }

@@ -1,33 +1,43 @@
-// Where the limit stands for a Publish of a topic. Nothing is inspected, counted or stored, and no state is handed back: it is as it was.
+// Where the limit stands for a Publish of a topic. Nothing is inspected, counted or stored.
 ghost use Rattle.std.specs.Prelude.{◌≡◌};
-ghost use Rattle.monitor.specs.Plan.{gate_in};
-ghost use Rattle.monitor.specs.State.{matcher_of};
-ghost use Rattle.monitor.specs.Standing.{a_publish, stands_at, limited_by, standing_in, leaves, left_in};
+ghost use Rattle.monitor.specs.Standing.{a_publish};
 
-use crate::gate::{Gate, gate_for};
+use crate::gate::Gate;
 use crate::message::{MqttMessage, MqttPacketType, TOPIC_MAX};
-use crate::plan::{limiter_kind, spent_for};
-use crate::state::{MqttMonitor, well_formed};
-use tables::identity::id_of;
+use crate::plan::limiter_kind;
+use crate::refusal::Refusal;
+use crate::state::MqttMonitor;
+use tables::identity::Id;
 use tables::rules::MqttQoS;
-use tables::standing::{Opening, Prospect, look_ahead};
+use tables::standing::{Opening, look_ahead};
 
-// Refused by a number above 0; else a Publish is denied by `kind` before the opening and allowed from it on. `rate` above 0: the limiter counts it.
-#[derive(Drop)]
+// A Publish is denied by `kind` before the opening and allowed from it on. `rate` above 0: the limiter counts it.
+#[derive(Clone, Copy, Debug, PartialEq, Eq)]
 pub struct Outlook {
-    pub number: u32,
     pub kind: u32,
     pub rate: u16,
     pub opening: Opening,
 }
 
-// What a Publish at a time would leave: refused by a number above 0; else the kind that denies it, 0 where it passes, the rate, and the tokens left.
-#[derive(Drop)]
+// What a Publish at a time would leave: the kind that denies it, 0 where it passes, the rate, and the tokens left.
+#[derive(Clone, Copy, Debug, PartialEq, Eq)]
 pub struct Left {
-    pub number: u32,
     pub kind: u32,
     pub rate: u16,
     pub tokens: u16,
+}
+
+impl Outlook {
+    // Denied by the gate, whatever the time.
+    fn barred(kind: u32) -> Outlook
+        ensures { result ≡ record { kind = kind; rate = 0; opening = Opening.Never } }
+    {
+        Outlook {
+            kind,
+            rate: 0,
+            opening: Opening::Never,
+        }
+    }
 }
 
 // A Publish: of what it says only its type is asked.
@@ -45,94 +55,69 @@ fn a_publish() -> MqttMessage
     }
 }
 
-// The gate of a Publish of a topic.
-fn publish_gate(m: MqttMonitor, topic: &[u8]) -> Gate
-    ensures { result ≡ gate_in (matcher_of m) m a_publish topic.now }
-{
-    let rules = m.rules;
-    let default_action = m.default_action;
-    let matching = m.matching;
-    gate_for(
-        rules,
-        m.rule_count,
-        default_action,
-        matching,
-        a_publish(),
-        topic,
-    )
-}
+impl MqttMonitor {
+    ghost use Rattle.monitor.specs.Plan.{gate_in};
+    ghost use Rattle.monitor.specs.Standing.{a_publish, standing_in, left_in, told_outlook, told_left};
+    ghost use Rattle.monitor.specs.State.{matcher_of};
 
-fn stands_at(number: u32, kind: u32, rate: u16, opening: Opening) -> Outlook
-    ensures { result ≡ stands_at number kind rate opening }
-{
-    Outlook {
-        number,
-        kind,
-        rate,
-        opening,
+    // The gate of a Publish of a topic.
+    fn publish_gate(&self, topic: &[u8]) -> Gate
+        ensures { result ≡ gate_in (matcher_of self.now) self.now a_publish topic.now }
+    {
+        self.gate_for(&a_publish(), topic)
     }
-}
 
-// A held identity is denied by 5 until then, a new one by 6.
-fn limited_by(rate: u16, prospect: Prospect) -> Outlook
-    ensures { result ≡ limited_by rate prospect }
-{
-    let opening = prospect.opening;
-    if prospect.held {
-        return stands_at(0, 5, rate, opening);
+    /// What a Publish of a topic meets, at every time, if nothing else comes before it: 10; 9 for a topic over 128 bytes; else by rules and buckets. A held identity is
+    /// denied by 5 until the opening, a new one by 6.
+    #[tactic(auto, unfolding(crate::specs::Standing::standing_with))]
+    pub fn standing(&self, topic: &[u8]) -> Result<Outlook, Refusal>
+        ensures { told_outlook result ≡ standing_in self.now topic.now }
+    {
+        self.checked()?;
+        if topic.len() > TOPIC_MAX {
+            return Err(Refusal::BadInput);
+        }
+        let gate = self.publish_gate(topic);
+        if gate.denial > 0 {
+            return Ok(Outlook::barred(gate.denial));
+        }
+        if gate.rate == 0 {
+            return Ok(Outlook {
+                kind: 0,
+                rate: 0,
+                opening: Opening::From(0),
+            });
+        }
+        let prospect = look_ahead(&self.rate_buckets, &Id::of(topic));
+        Ok(Outlook {
+            kind: if prospect.held { 5 } else { 6 },
+            rate: gate.rate,
+            opening: prospect.opening,
+        })
     }
-    stands_at(0, 6, rate, opening)
-}
 
-// What a Publish of a topic meets, at every time, if nothing else comes before it: 10; 9 for a topic over 128 bytes; else by rules and buckets.
-pub fn standing(m: MqttMonitor, topic: &[u8]) -> Outlook
-    ensures { result ≡ standing_in m topic.now }
-{
-    if !well_formed(m) {
-        return stands_at(10, 0, 0, Opening::Never);
+    /// What a Publish of a topic would leave at a time: the same refusals, then the kind that denies it and the tokens that are left after it.
+    #[tactic(auto, unfolding(crate::specs::Standing::left_in))]
+    pub fn tokens_left(&self, topic: &[u8], now_us: u64) -> Result<Left, Refusal>
+        ensures { told_left result ≡ left_in self.now topic.now now_us }
+    {
+        self.checked()?;
+        if topic.len() > TOPIC_MAX {
+            return Err(Refusal::BadInput);
+        }
+        let gate = self.publish_gate(topic);
+        if gate.denial > 0 {
+            return Ok(Left {
+                kind: gate.denial,
+                rate: 0,
+                tokens: 0,
+            });
+        }
+        let spent = self.spent_for(gate.rate, &Id::of(topic), now_us);
+        Ok(Left {
+            kind: limiter_kind(spent.result),
+            rate: gate.rate,
+            tokens: spent.bucket.tokens,
+        })
     }
-    if TOPIC_MAX < topic.len() {
-        return stands_at(9, 0, 0, Opening::Never);
-    }
-    let gate = publish_gate(m, topic);
-    if 0 < gate.denial {
-        return stands_at(0, gate.denial, 0, Opening::Never);
-    }
-    if gate.rate == 0 {
-        return stands_at(0, 0, 0, Opening::From(0));
-    }
-    let buckets = m.rate_buckets;
-    limited_by(gate.rate, look_ahead(buckets, id_of(topic)))
-}
-
-fn leaves(number: u32, kind: u32, rate: u16, tokens: u16) -> Left
-    ensures { result ≡ leaves number kind rate tokens }
-{
-    Left {
-        number,
-        kind,
-        rate,
-        tokens,
-    }
-}
-
-// What a Publish of a topic would leave at a time: the same refusals, then the kind that denies it and the tokens that are left after it.
-pub fn tokens_left(m: MqttMonitor, topic: &[u8], now_us: u64) -> Left
-    ensures { result ≡ left_in m topic.now now_us }
-{
-    if !well_formed(m) {
-        return leaves(10, 0, 0, 0);
-    }
-    if TOPIC_MAX < topic.len() {
-        return leaves(9, 0, 0, 0);
-    }
-    let gate = publish_gate(m, topic);
-    if 0 < gate.denial {
-        return leaves(0, gate.denial, 0, 0);
-    }
-    let buckets = m.rate_buckets;
-    let spent = spent_for(buckets, gate, id_of(topic), now_us);
-    let result = spent.result;
-    let bucket = spent.bucket;
-    leaves(0, limiter_kind(result), gate.rate, bucket.tokens)
 }

@@ -1,21 +1,22 @@
 // The monitor's state, as in the Rust, with a live flag in each record where it has an `Option` (000 `MqttMonitor`). Fields are public, so any state can be
 // handed in: number 10 refuses those that no call hands out.
-ghost use Rattle.std.specs.Prelude.{◌≡◌, ◌≤◌, take, replicate};
+ghost use Rattle.std.specs.Prelude.{◌≡◌, cond, Result, Ok, Err, replicate};
 ghost use Rattle.laws.specs.Lists.{every};
-ghost use Rattle.tables.specs.Buckets.{bucket_fine, empty_bucket};
+ghost use Rattle.tables.specs.Buckets.{bucket_fine};
 ghost use Rattle.tables.specs.Rules.{rule_fine, empty_rule};
-ghost use Rattle.tables.specs.Trackers.{tracker_fine, empty_tracker};
-ghost use Rattle.tables.specs.Windows.{window_fine, empty_window};
-ghost use Rattle.monitor.specs.State.{well_formed};
+ghost use Rattle.tables.specs.Trackers.{tracker_fine};
+ghost use Rattle.tables.specs.Windows.{window_fine};
 
-use tables::buckets::{BUCKETS, RateBucket, bucket_fine, empty_bucket};
-use tables::rules::{RULES, TopicAction, TopicRule, empty_rule, rule_fine};
-use tables::trackers::{EwmaTracker, TRACKERS, empty_tracker, tracker_fine};
-use tables::windows::{ClientStormEntry, WINDOWS, empty_window, window_fine};
+use crate::refusal::Refusal;
+use tables::buckets::{BUCKETS, RateBucket};
+use tables::rules::{RULES, TopicAction, TopicRule};
+use tables::trackers::{EwmaTracker, TRACKERS};
+use tables::windows::{ClientStormEntry, WINDOWS};
 use topics::matching::Matching;
 
 // `matching` is the matcher that the rules are chosen by. The Rust has no such field: its own is `Port` (request C-15). A constructor sets it, and no call changes it.
-#[derive(Clone, Copy)]
+// `rule_count` stands beside the rules: number 10 refuses counts that a type would exclude (`well_formed`).
+#[derive(Clone, Debug, PartialEq, Eq, Drop)]
 pub struct MqttMonitor {
     pub rules: [TopicRule; RULES],
     pub rule_count: u16,
@@ -31,133 +32,59 @@ pub struct MqttMonitor {
     pub total_alerts: u64,
 }
 
-// How a call ended: a number of its own (the shadow count, or 0), or the number of document 01 that refuses it.
-#[derive(Drop)]
-pub enum Outcome {
-    Done(u16),
-    Refused(u32),
-}
-
-// A call's outcome, beside the state that it leaves.
-#[derive(Drop)]
-pub struct Called {
-    pub outcome: Outcome,
-    pub monitor: MqttMonitor,
-}
-
-// A call that is refused: the state is as given.
-pub(crate) fn refused(m: MqttMonitor, number: u32) -> Called
-    ensures { result ≡ record { outcome = Outcome.Refused number; monitor = m } }
+// All of these rules are such as `add_rule` leaves.
+fn rules_fine(rules: &[TopicRule]) -> bool
+    ensures { result ≡ every rule_fine rules.now }
 {
-    Called {
-        outcome: Outcome::Refused(number),
-        monitor: m,
-    }
-}
-
-// A call that is done, with a number of its own.
-pub(crate) fn done(m: MqttMonitor, value: u16) -> Called
-    ensures { result ≡ record { outcome = Outcome.Done value; monitor = m } }
-{
-    Called {
-        outcome: Outcome::Done(value),
-        monitor: m,
-    }
-}
-
-// The first `count` rules are such as `add_rule` leaves.
-fn rules_fine(rules: [TopicRule; RULES], count: usize) -> bool
-    requires { count ≤ 32 }
-    ensures { result ≡ every rule_fine (take count rules) }
-{
-    let mut i = 0;
-    while i < count {
-        let rule = rules[i];
-        if !rule_fine(rule) {
-            return false;
-        }
-        i += 1;
-    }
-    true
+    rules.iter().all(|rule| rule.is_fine())
 }
 
 // No live bucket has a prefix length over 32 or a remainder over 999,999.
-fn buckets_fine(buckets: [RateBucket; BUCKETS]) -> bool
-    ensures { result ≡ every bucket_fine buckets }
+fn buckets_fine(buckets: &[RateBucket]) -> bool
+    ensures { result ≡ every bucket_fine buckets.now }
 {
-    let mut i = 0;
-    while i < BUCKETS {
-        let bucket = buckets[i];
-        if !bucket_fine(bucket) {
-            return false;
-        }
-        i += 1;
-    }
-    true
+    buckets.iter().all(|bucket| bucket.is_fine())
 }
 
 // No live window has a count over 16.
-fn windows_fine(clients: [ClientStormEntry; WINDOWS]) -> bool
-    ensures { result ≡ every window_fine clients }
+fn windows_fine(clients: &[ClientStormEntry]) -> bool
+    ensures { result ≡ every window_fine clients.now }
 {
-    let mut i = 0;
-    while i < WINDOWS {
-        let entry = clients[i];
-        if !window_fine(entry) {
-            return false;
-        }
-        i += 1;
-    }
-    true
+    clients.iter().all(|entry| entry.is_fine())
 }
 
 // No live tracker has a prefix length over 32.
-fn trackers_fine(trackers: [EwmaTracker; TRACKERS]) -> bool
-    ensures { result ≡ every tracker_fine trackers }
+fn trackers_fine(trackers: &[EwmaTracker]) -> bool
+    ensures { result ≡ every tracker_fine trackers.now }
 {
-    let mut i = 0;
-    while i < TRACKERS {
-        let tracker = trackers[i];
-        if !tracker_fine(tracker) {
-            return false;
-        }
-        i += 1;
-    }
-    true
-}
-
-// The test behind number 10, with which every call but the counters begins (document 01, "Numbers handed back").
-pub fn well_formed(m: MqttMonitor) -> bool
-    ensures { result ≡ well_formed m }
-{
-    let count = m.rule_count as usize;
-    if RULES < count {
-        return false;
-    }
-    let rules = m.rules;
-    if !rules_fine(rules, count) {
-        return false;
-    }
-    let buckets = m.rate_buckets;
-    if !buckets_fine(buckets) {
-        return false;
-    }
-    let clients = m.connect_windows;
-    if !windows_fine(clients) {
-        return false;
-    }
-    let trackers = m.ewma_trackers;
-    trackers_fine(trackers)
+    trackers.iter().all(|tracker| tracker.is_fine())
 }
 
 impl MqttMonitor {
     ghost use Rattle.monitor.specs.State.{well_formed};
 
     /// The test behind number 10, with which every call but the counters begins (document 01, "Numbers handed back").
+    #[tactic(auto, unfolding(crate::specs::State::well_formed))]
     pub fn is_well_formed(&self) -> bool
         ensures { result ≡ well_formed self.now }
     {
-        well_formed(*self)
+        let count = usize::from(self.rule_count);
+        count <= RULES
+            && rules_fine(&self.rules[..count])
+            && buckets_fine(&self.rate_buckets)
+            && windows_fine(&self.connect_windows)
+            && trackers_fine(&self.ewma_trackers)
+    }
+
+    // 10, where the test fails.
+    pub(crate) fn checked(&self) -> Result<(), Refusal>
+        ensures { result ≡ cond (well_formed self.now) (Ok tt) (Err Refusal.Malformed) }
+    {
+        if self.is_well_formed() {
+            Ok(())
+        } else {
+            Err(Refusal::Malformed)
+        }
     }
 }
 
@@ -165,30 +92,5 @@ impl MqttMonitor {
 pub fn free_rules() -> [TopicRule; RULES]
     ensures { result ≡ replicate 32 empty_rule }
 {
-    let rule = empty_rule();
-    [rule; RULES]
-}
-
-// A table of free buckets.
-pub(crate) fn free_buckets() -> [RateBucket; BUCKETS]
-    ensures { result ≡ replicate 32 empty_bucket }
-{
-    let bucket = empty_bucket();
-    [bucket; BUCKETS]
-}
-
-// A table of free CONNECT windows.
-pub(crate) fn free_windows() -> [ClientStormEntry; WINDOWS]
-    ensures { result ≡ replicate 16 empty_window }
-{
-    let entry = empty_window();
-    [entry; WINDOWS]
-}
-
-// A table of free trackers.
-pub(crate) fn free_trackers() -> [EwmaTracker; TRACKERS]
-    ensures { result ≡ replicate 16 empty_tracker }
-{
-    let tracker = empty_tracker();
-    [tracker; TRACKERS]
+    [TopicRule::FREE; RULES]
 }

@@ -1,3 +1,4 @@
 pub mod PlaceLaws
 pub mod SameLaws
+mod StdLaws
 pub mod WalkLaws

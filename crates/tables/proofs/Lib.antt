@@ -1,2 +1,3 @@
+pub mod FreeLaws
 pub mod LookupLaws
 pub mod ScanLaws

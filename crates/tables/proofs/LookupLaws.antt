@@ -1,11 +1,10 @@
 -- Looking a record up in a table, whatever its records are: `f` at the place of the first that passes a test, else `f` at a newcomer's place `s` with the new
 -- record `w`. CONNECT windows and payload trackers are looked up so. Assumes nothing.
-use mathlib.Core.Path.{◌≡◌, ap, ◌∙◌}
+use mathlib.Core.Path.{◌≡◌}
 use mathlib.Core.Bool.{Bool, true, false, cond}
 use mathlib.Core.List.{List}
-use Prim.Native.Nat.{ℕ, ◌<◌, ◌≤◌}
-use native.Mathlib.Omega.{arith}
-use borrow.Author.Tests.{lt-ltb, le-ltb, ltb-true, ltb-false}
+use Prim.Native.Nat.{ℕ, ◌<◌}
+use borrow.Author.Tests.{ltb-true, ltb-false}
 use lib.Dec.{ltb}
 use lib.ListN.{length, get_or}
 use Rattle.laws.proofs.Cases.{choose}
@@ -15,15 +14,6 @@ use Rattle.tables.proofs.ScanLaws.{find-lt, find_none}
 module _ {A D : Type 0} (p : A → Bool) (l : List A) (none : A) (f : ℕ → A → D) (s : ℕ) (w : A) where
   abbrev pub held_or_new : D
   held_or_new = cond (ltb (find p l) (length l)) (f (find p l) (get_or l (find p l) none)) (f s w)
-
-  -- the search ended at a record
-  pub held : {i : ℕ} {r : D} → i ≡ find p l → i < length l → r ≡ f i (get_or l i none) → r ≡ held_or_new
-  held e h k = let lt : find p l < length l = omega arith in rw (lt-ltb _ _ lt, ← e) k
-
-  -- it ended at the table's end
-  pub new : {i j : ℕ} {x : A} {r : D} → i ≡ find p l → length l ≤ i → j ≡ s → x ≡ w → r ≡ f j x → r ≡ held_or_new
-  new {i} {j} {x} e h es ew k =
-      let le : length l ≤ find p l = omega arith in rw (le-ltb _ _ le) (k ∙ ap (λ (n : ℕ). f n x) es ∙ ap (f s) ew)
 
   -- what is true of `f` at a place that passes, and of the newcomer where none passes, is true of the answer
   pub looked_up : (P : D → Type 0) → ((i : ℕ) → i < length l → p (get_or l i none) ≡ true → P (f i (get_or l i none)))

@@ -1,4 +1,4 @@
--- Searching a table, whatever its records are. The first half serves the loops: `find` by a loop that counts up and leaves at the first hit, `least_of` by a
+-- Searching a table, whatever its records are. The first half serves the code: `find` by a chain or by a loop that counts up and leaves at the first hit, `least_of` by a
 -- loop that counts down. The second half serves whoever reasons about a found place. Last: where a test asks for a small number, the least that passes
 -- it is the least of all, if that passes, so that one scan decides. Assumes nothing.
 use mathlib.Core.Bool.{Bool, true, false, cond, false≢true}
@@ -7,14 +7,16 @@ use mathlib.Core.Path.{◌≡◌, refl, sym, ap, ◌∙◌}
 use Prim.Native.Nat.{ℕ, zero, suc, ◌+◌, ◌-◌, ◌<◌, ◌≤◌}
 use native.Mathlib.Numerals.{add-one}
 use native.Mathlib.Omega.{arith}
-use borrow.Author.Tests.{le-leb, lt-leb, lt-ltb, le-ltb, ltb-true, leb-true, leb-false}
+use borrow.Author.Tests.{le-leb, lt-leb, lt-ltb, le-ltb, ltb-true, ltb-false, leb-true, leb-false}
 use lib.Dec.{leb, ltb}
 use lib.ListN.{length, drop, get_or, drop_of_length-le}
 use lib.Seq.{drop-cons}
+use Rattle.std.specs.Prelude.{Option, Some, None}
+use Rattle.std.specs.List.{position, position_or_len}
 use Rattle.laws.specs.Lists.{every}
 use Rattle.laws.proofs.Cases.{by}
 use Rattle.laws.proofs.Every.{every_both}
-use Rattle.tables.specs.Scan.{find, Least, absent, least, in_front, skipped, least_of, least_place, any, seat}
+use Rattle.tables.specs.Scan.{find, placed, Least, absent, least, in_front, skipped, least_of, least_place, any, seat}
 
 -- two tests that answer alike of such records as a table has find the same place
 pub find_same : {A : Type 0} (s p q : A → Bool) → ((x : A) → s x ≡ true → p x ≡ q x) → (l : List A) → every s l ≡ true → find p l ≡ find q l
@@ -24,6 +26,27 @@ find_same s p q same (x ∷ l) e =
     let h = every_both s x l e in
     let e = same x h.0 in
     by (q x) (λ y. rw (e ∙ y, y, find)) (λ y. rw (e ∙ y, y, find, find_same s p q same l h.1))
+
+-- `find` is std's word, and so a chain's `position` is the place that `find` tells
+pub find_is : {A : Type 0} (p : A → Bool) (l : List A) → position_or_len p l ≡ find p l
+unfolding find
+find_is p [] = refl
+find_is p (x ∷ l) =
+    let ih = find_is p l in by (p x) (λ e. rw (e, find) refl) (λ e. rw (e, find) (omega (arith, ih)))
+
+pub place_found : {A : Type 0} (p : A → Bool) (l : List A) {n : ℕ} {r : Option ℕ} → r ≡ position p l → length l ≡ n → r ≡ placed n (find p l)
+place_found p l e h = rw (e, ← h, find_is p l)
+
+-- what a place says, and none
+pub placed_some : {n k at : ℕ} {r : Option ℕ} → r ≡ placed n k → r ≡ Some at → (at ≡ k) × (at < n)
+placed_some {n} {k} {at} e s =
+    by (ltb k n)
+    (λ h. let u : Some k ≡ Some at = rw h at (sym e ∙ s) in let v : k ≡ at = cc in (sym v, omega (arith, ltb-true k n h)))
+    (λ h. let u : None ≡ Some at = rw h at (sym e ∙ s) in cc)
+
+pub placed_none : {n k : ℕ} {r : Option ℕ} → r ≡ placed n k → r ≡ None → n ≤ k
+placed_none {n} {k} e s =
+    by (ltb k n) (λ h. let u : Some k ≡ None = rw h at (sym e ∙ s) in cc) (λ h. ltb-false k n h)
 
 module _ {A : Type 0} (p : A → Bool) (l : List A) {i : ℕ} (d : A) where
   -- the record at a place passes: this is the first that does
@@ -82,13 +105,6 @@ module _ {A : Type 0} (f : A → ℕ) (l : List A) (i : ℕ) (d : A) where
         let b = inv.inside in
         let o : at - (i - 1) ≡ suc (at - i) = omega arith in
         record { from = omega arith; inside = b; found = rw (one_more z (omega arith), inv.found, lt-leb _ _ e, o) }
-
--- the place that such a loop ends with
-pub least_done : {A : Type 0} {f : A → ℕ} {l : List A} {at u i : ℕ} → LeastFrom f l at u i → i ≤ 0 → at ≡ least_place (least_of f any l)
-least_done {f} {l} {at} {u} {i} inv z =
-    let o : i ≡ 0 = omega arith in
-    let e : least_of f any (drop 0 l) ≡ least (at - 0) u = rw o at inv.found in
-    let g : at ≡ at - 0 = omega arith in rw e g
 
 -- what is true of the first place that passes
 module _ {A : Type 0} (p : A → Bool) where

@@ -6,9 +6,13 @@ use Rattle.tables.specs.Identity.{is_of, is_removed, no_id, empty_id}
 use Rattle.tables.specs.Scan.{find, least_of, least_place, is_there, any}
 use Rattle.tables.specs.declared.identity.Id.{Id}
 use Rattle.tables.specs.declared.buckets.RateBucket.{RateBucket}
-use Rattle.tables.specs.declared.buckets.Spent.{Spent}
 use Rattle.tables.specs.declared.buckets.RateDecision.{RateDecision}
 use Rattle.tables.specs.declared.buckets.RateCheckResult.TheVariants.{Allowed, Limited, EvictedAndDenied}
+
+-- a bucket after a message of its identity, and whether the message is within the rate
+pub record Spent : Type 0 where
+  pub ok : Bool
+  pub bucket : RateBucket
 
 -- the same bucket with other tokens, another remainder and another time
 abbrev pub with_tokens : RateBucket → ℕ → ℕ → ℕ → RateBucket

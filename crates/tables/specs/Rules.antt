@@ -1,6 +1,6 @@
 -- Document 01, "Numbers handed back" (`add_rule`) and "Order inside one inspection": the rule table. Only the first `n` places of it count.
 -- Assumes nothing.
-use Rattle.std.specs.Prelude.{Bool, true, false, cond, ◌&&◌, ◌||◌, List, [], ◌∷◌, ◌++◌, ℕ, ◌+◌, ◌-◌, min, eqb, leb, ltb, length, get_or, take, replicate}
+use Rattle.std.specs.Prelude.{Bool, true, false, cond, ◌&&◌, ◌||◌, List, [], ◌∷◌, ◌++◌, ℕ, ◌+◌, ◌-◌, min, eqb, leb, ltb, length, get_or, take, replicate, Result, Ok, Err}
 use Rattle.slices.specs.Bytes.{same}
 use Rattle.topics.specs.Matching.{port_matches}
 use Rattle.topics.specs.Patterns.{pattern_refusal}
@@ -9,7 +9,9 @@ use Rattle.tables.specs.Scan.{find}
 use Rattle.tables.specs.declared.rules.MqttQoS.{MqttQoS}
 use Rattle.tables.specs.declared.rules.QosPolicy.{QosPolicy}
 use Rattle.tables.specs.declared.rules.QosPolicy.TheVariants.{Any, MinQoS, ExactQoS}
-use Rattle.tables.specs.declared.rules.RulePlan.{RulePlan}
+use Rattle.tables.specs.declared.rules.Placement.{Placement}
+use Rattle.tables.specs.declared.rules.RuleRefusal.{RuleRefusal}
+use Rattle.tables.specs.declared.rules.RuleRefusal.TheVariants.{TableFull, BadPattern, NotUtf8}
 use Rattle.tables.specs.declared.rules.TopicAction.{TopicAction}
 use Rattle.tables.specs.declared.rules.TopicAction.TheVariants.{Allow}
 use Rattle.tables.specs.declared.rules.TopicRule.{TopicRule}
@@ -86,6 +88,13 @@ overwritten r action policy rate =
 abbrev pub is_held : List TopicRule → ℕ → List ℕ → Bool
 is_held rules n p = ltb (equal_rule p rules n) (min n 32)
 
+-- where a rule goes: `rule` then stands at `at`, and `count` are held. Where `number` refuses it, `at` is no place and the count is as given
+pub record RulePlan : Type 0 where
+  pub number : ℕ
+  pub at : ℕ
+  pub rule : TopicRule
+  pub count : ℕ
+
 -- a rule that a number refuses: it has no place, and the count is as given
 abbrev pub not_taken : ℕ → ℕ → RulePlan
 not_taken number n = record { number = number; at = 32; rule = empty_rule; count = n }
@@ -103,3 +112,14 @@ rule_plan rules n p action policy rate =
     })
     (cond (ltb n 32) (record { number = 0; at = n; rule = rule_of p action policy rate; count = n + 1 }) (not_taken 6 n)))
     (not_taken (pattern_refusal p) n)
+
+-- the number of a refusal
+abbrev pub rule_number : RuleRefusal → ℕ
+rule_number TableFull = 6
+rule_number BadPattern = 9
+rule_number NotUtf8 = 36
+
+-- an answer as a plan: a refused rule has no place in a table of n rules
+abbrev pub told_plan : ℕ → Result Placement RuleRefusal → RulePlan
+told_plan n (Ok p) = record { number = 0; at = p.at; rule = p.rule; count = p.count }
+told_plan n (Err e) = not_taken (rule_number e) n

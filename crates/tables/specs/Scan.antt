@@ -1,12 +1,16 @@
 -- Searching a table, whatever its records are: the first place that passes a test, and the place of the least number, the first in a tie
 -- (document 01, "Buckets", "CONNECT windows and payload trackers").
 -- Assumes nothing.
-use Rattle.std.specs.Prelude.{Bool, true, false, cond, List, [], ◌∷◌, ℕ, zero, suc, leb, ltb, length}
+use Rattle.std.specs.Prelude.{Bool, true, false, cond, List, [], ◌∷◌, ℕ, zero, suc, leb, ltb, length, Option, Some, None}
 
 -- the first place whose record passes a test; the table's length where none does
 unfoldable pub find : {A : Type 0} → (A → Bool) → List A → ℕ
 find p [] = zero
 find p (x ∷ xs) = elim (p x) [ true ↦ zero | false ↦ suc (find p xs) ]
+
+-- a place of a table of n records, or none where it is past the end
+abbrev pub placed : ℕ → ℕ → Option ℕ
+placed n at = cond (ltb at n) (Some at) None
 
 -- the least number of a table and its place, or that no record was to be looked at
 pub data Least : Type 0 where

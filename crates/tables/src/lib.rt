@@ -7,6 +7,7 @@ pub mod buckets;
 pub mod covers;
 pub mod identity;
 pub mod rules;
+mod slots;
 pub mod standing;
 pub mod trackers;
 pub mod windows;

@@ -1,18 +1,18 @@
 // Payload trackers (document 01, "CONNECT windows and payload trackers"; 000 `EwmaTracker`, `ewma_update`).
-ghost use Rattle.std.specs.Prelude.{not, ◌≡◌, ◌+◌, ◌*◌, ◌/◌, min};
-ghost use Rattle.tables.specs.Scan.{find, least_of, least_place, any, seat};
-ghost use Rattle.tables.specs.Trackers.{saturated, mean_after, threshold, is_anomaly, fed, fresh_tracker, feed_at, feed, removed_tracker, empty_tracker, tracker_fine};
+ghost use Rattle.std.specs.Prelude.{◌≡◌, ◌&&◌};
+ghost use Rattle.tables.specs.Identity.{is_removed};
+ghost use Rattle.tables.specs.Scan.{find, placed};
+ghost use Rattle.tables.specs.Trackers.{saturated, mean_after, threshold, is_anomaly, fed, fresh_tracker, holds_tracker, feed_at, feed, removed_tracker, tracker_fine};
 
-use crate::identity::{
-    Id, PREFIX, all_numbers_agree, empty_id, first_bytes_agree, numbers_agree, prefixes_agree,
-};
+use crate::identity::{Id, PREFIX};
+use crate::slots::{Record, seat};
 
 // How many payload trackers a monitor holds.
 pub const TRACKERS: usize = 16;
 
-const LAST: usize = TRACKERS - 1;
-
-#[derive(Clone, Copy)]
+// `active` stays beside the others: `calls` sets and shows records that are not live (`tracker_live`, crates/calls/stdin), which an `Option` cannot hold, and the three
+// tables share the trait `Record`.
+#[derive(Clone, Copy, Debug, PartialEq, Eq)]
 pub struct EwmaTracker {
     pub id: Id,
     pub mean_x256: u32,
@@ -22,249 +22,159 @@ pub struct EwmaTracker {
 }
 
 // What a fed message does: `tracker` is to be stored at `at`; `alert` is kind 7.
-#[derive(Drop)]
+#[derive(Clone, Copy, Debug, PartialEq, Eq)]
 pub struct TrackerDecision {
     pub at: usize,
     pub tracker: EwmaTracker,
     pub alert: bool,
 }
 
+impl Record for EwmaTracker {
+    ghost live = { λ k. k.active };
+
+    ghost stamp = { λ k. k.last_update_us };
+
+    fn is_live(&self) -> bool {
+        self.active
+    }
+
+    fn stamp(&self) -> u64 {
+        self.last_update_us
+    }
+}
+
 // A sum or product of the mean, at most 2^32 - 1.
 fn saturate(n: u64) -> u32
     ensures { result ≡ saturated n }
 {
-    if n < 4_294_967_295 {
-        n as u32
-    } else {
-        4_294_967_295
-    }
+    n.min(u64::from(u32::MAX)) as u32
 }
 
-// A mean is cut at a ceiling.
-fn least(a: u32, b: u32) -> u32
-    ensures { result ≡ min a b }
-{
-    if a < b { a } else { b }
-}
-
-// The first eight sizes are summed up.
-fn sum_after(mean: u32, size: u16) -> u32
-    ensures { result ≡ saturated (mean + size * 256) }
-{
-    saturate((mean as u64) + (size as u64) * 256)
-}
-
-// From the ninth sample on: 32 of 256 parts of the size and 224 of the mean.
-fn weighed(mean: u32, size: u16) -> u32
-    ensures { result ≡ min (saturated (saturated (32 * (size * 256)) / 256 + saturated (224 * mean) / 256)) 65536 }
-{
-    let new_part = saturate(32 * ((size as u64) * 256)) / 256;
-    let old_part = saturate(224 * (mean as u64)) / 256;
-    least(saturate((new_part as u64) + (old_part as u64)), 65_536)
-}
-
-// The mean x 256 after one size more, by how many samples there were. During the first eight it holds their sum.
+// The mean x 256 after one size more, by how many samples there were. During the first eight it holds their sum; from the ninth on, 32 of 256 parts are the size's and
+// 224 the mean's.
+#[tactic(auto, unfolding(crate::specs::Trackers::mean_after))]
 fn mean_after(samples: u8, mean: u32, size: u16) -> u32
     ensures { result ≡ mean_after samples mean size }
 {
-    if samples == 0 {
-        return (size as u32) * 256;
-    }
-    if samples < 7 {
-        return least(sum_after(mean, size), 524_288);
-    }
-    if samples == 7 {
-        return sum_after(mean, size) / 8;
-    }
-    weighed(mean, size)
-}
-
-// The sample count stops at 255.
-fn one_sample_more(samples: u8) -> u8
-    ensures { result ≡ min (samples + 1) 255 }
-{
-    if samples < 255 { samples + 1 } else { 255 }
-}
-
-// Feeds one size (000 `update`, whose answer is `is_anomaly`).
-pub fn update(tracker: EwmaTracker, payload_len: u16, now_us: u64) -> EwmaTracker
-    ensures { result ≡ fed tracker payload_len now_us }
-{
-    let mut next = tracker;
-    next.mean_x256 = mean_after(tracker.sample_count, tracker.mean_x256, payload_len);
-    next.sample_count = one_sample_more(tracker.sample_count);
-    next.last_update_us = now_us;
-    next
-}
-
-// Four times the mean: a size above it is far above the mean.
-fn threshold_of(mean: u32) -> u32
-    ensures { result ≡ threshold mean }
-{
-    saturate((mean as u64) * 4) / 256
-}
-
-// Whether a size alerts, before it is fed: never among the first eight, nor while the threshold is 0.
-pub fn is_anomaly(tracker: EwmaTracker, payload_len: u16) -> bool
-    ensures { result ≡ is_anomaly tracker.sample_count tracker.mean_x256 payload_len }
-{
-    if tracker.sample_count < 8 {
-        return false;
-    }
-    let threshold = threshold_of(tracker.mean_x256);
-    if (payload_len as u32) <= threshold {
-        return false;
-    }
-    0 < threshold
-}
-
-// A tracker that was fed nothing yet.
-fn fresh_tracker(id: Id) -> EwmaTracker
-    ensures { result ≡ fresh_tracker id }
-{
-    EwmaTracker {
-        id: id,
-        mean_x256: 0,
-        sample_count: 0,
-        last_update_us: 0,
-        active: true,
-    }
-}
-
-// The first free place; 16 where there is none.
-fn find_free(trackers: [EwmaTracker; TRACKERS]) -> usize
-    ensures { result ≡ find (λ k. not k.active) trackers }
-{
-    let mut i: usize = 0;
-    while i < TRACKERS {
-        if !trackers[i].active {
-            return i;
-        }
-        i += 1;
-    }
-    i
-}
-
-// The place of the least update time. It counts down, so that `<=` leaves a tie to the first place.
-fn find_oldest(trackers: [EwmaTracker; TRACKERS]) -> usize
-    ensures { result ≡ least_place (least_of (λ k. k.last_update_us) any trackers) }
-{
-    let mut time = trackers[LAST].last_update_us;
-    let mut at: usize = LAST;
-    let mut i: usize = LAST;
-    while 0 < i {
-        i -= 1;
-        let then = trackers[i].last_update_us;
-        if then <= time {
-            time = then;
-            at = i;
+    let size_x256 = u32::from(size) * 256;
+    match samples {
+        0 => size_x256,
+        1..=6 => mean.saturating_add(size_x256).min(524_288),
+        7 => mean.saturating_add(size_x256) / 8,
+        _ => {
+            let new_part = saturate(32 * u64::from(size_x256)) / 256;
+            let old_part = saturate(224 * u64::from(mean)) / 256;
+            new_part.saturating_add(old_part).min(65_536)
         }
     }
-    at
 }
 
-// Where a newcomer's tracker goes.
-fn find_seat(trackers: [EwmaTracker; TRACKERS]) -> usize
-    ensures { result ≡ seat (λ k. not k.active) (λ k. k.last_update_us) trackers }
-{
-    let free = find_free(trackers);
-    if free < TRACKERS {
-        return free;
-    }
-    find_oldest(trackers)
-}
-
-// The size is judged by the mean before it, then fed.
-fn feed_at(at: usize, tracker: EwmaTracker, payload_len: u16, now_us: u64) -> TrackerDecision
-    ensures { result ≡ feed_at at tracker payload_len now_us }
-{
-    let alert = is_anomaly(tracker, payload_len);
-    let next = update(tracker, payload_len, now_us);
-    TrackerDecision {
-        at: at,
-        tracker: next,
-        alert: alert,
-    }
-}
-
-// What a fed message does to the table (000 `ewma_update`).
-pub fn ewma_update(
-    trackers: [EwmaTracker; TRACKERS],
-    id: Id,
-    payload_len: u16,
-    now_us: u64,
-) -> TrackerDecision
-    ensures { result ≡ feed trackers id payload_len now_us }
-{
-    let mut i: usize = 0;
-    while i < TRACKERS {
-        let at = i;
-        i += 1;
-        if all_numbers_agree(
-            id,
-            trackers[at].active,
-            trackers[at].id.len,
-            trackers[at].id.hash,
-            trackers[at].id.hash2,
-            trackers[at].id.suffix_hash,
-        ) {
-            let tracker = trackers[at];
-            let held = tracker.id;
-            if first_bytes_agree(id, held) {
-                return feed_at(at, tracker, payload_len, now_us);
-            }
-        }
-    }
-    let at = find_seat(trackers);
-    feed_at(at, fresh_tracker(id), payload_len, now_us)
-}
-
-// The place of the tracker that a remove call removes; 16 where it is not held (000 `remove_ewma_tracker`).
-pub fn removed_tracker(trackers: [EwmaTracker; TRACKERS], id: Id) -> usize
-    ensures { result ≡ removed_tracker id trackers }
-{
-    let mut i: usize = 0;
-    while i < TRACKERS {
-        let at = i;
-        i += 1;
-        if numbers_agree(
-            id,
-            trackers[at].active,
-            trackers[at].id.len,
-            trackers[at].id.hash,
-            trackers[at].id.hash2,
-        ) {
-            let tracker = trackers[at];
-            let held = tracker.id;
-            if prefixes_agree(id, held) {
-                return at;
-            }
-        }
-    }
-    i
-}
-
-// A free place.
-pub fn empty_tracker() -> EwmaTracker
-    ensures { result ≡ empty_tracker }
-{
-    let id = empty_id();
-    EwmaTracker {
-        id: id,
+impl EwmaTracker {
+    // A free place.
+    pub const FREE: EwmaTracker = EwmaTracker {
+        id: Id::EMPTY,
         mean_x256: 0,
         sample_count: 0,
         last_update_us: 0,
         active: false,
+    };
+
+    // A tracker that was fed nothing yet.
+    fn new(id: &Id) -> EwmaTracker
+        ensures { result ≡ fresh_tracker id.now }
+    {
+        EwmaTracker {
+            id: *id,
+            active: true,
+            ..EwmaTracker::FREE
+        }
+    }
+
+    // Feeds one size (000 `update`, whose answer is `is_anomaly`).
+    #[tactic(auto, unfolding(crate::specs::Trackers::fed))]
+    pub fn update(&mut self, payload_len: u16, now_us: u64)
+        ensures { self.new ≡ fed self.old payload_len now_us }
+    {
+        self.mean_x256 = mean_after(self.sample_count, self.mean_x256, payload_len);
+        self.sample_count = self.sample_count.saturating_add(1);
+        self.last_update_us = now_us;
+    }
+
+    // Four times the mean: a size above it is far above the mean.
+    fn threshold(&self) -> u32
+        ensures { result ≡ threshold self.now.mean_x256 }
+    {
+        self.mean_x256.saturating_mul(4) / 256
+    }
+
+    // Whether a size alerts, before it is fed: never among the first eight, nor while the threshold is 0.
+    #[tactic(auto, unfolding(crate::specs::Trackers::is_anomaly))]
+    pub fn is_anomaly(&self, payload_len: u16) -> bool
+        ensures { result ≡ is_anomaly self.now.sample_count self.now.mean_x256 payload_len }
+    {
+        let threshold = self.threshold();
+        self.sample_count >= 8 && threshold < u32::from(payload_len) && 0 < threshold
+    }
+
+    // A live tracker of an identity.
+    #[tactic(auto, unfolding(crate::specs::Trackers::holds_tracker))]
+    fn holds(&self, id: &Id) -> bool
+        ensures { result ≡ holds_tracker id.now self.now }
+    {
+        self.active && self.id.is_of(id)
+    }
+
+    // A live tracker that a removal means.
+    fn is_gone(&self, id: &Id) -> bool
+        ensures { result ≡ (self.now.active && is_removed id.now self.now.id) }
+    {
+        self.active && self.id.is_removed_by(id)
+    }
+
+    // Not a live record with a prefix length over 32 (number 10).
+    pub fn is_fine(&self) -> bool
+        ensures { result ≡ tracker_fine self.now }
+    {
+        !self.active || usize::from(self.id.prefix_len) <= PREFIX
     }
 }
 
-// Not a live record with a prefix length over 32 (number 10).
-pub fn tracker_fine(tracker: EwmaTracker) -> bool
-    ensures { result ≡ tracker_fine tracker }
+// The place of a held identity.
+fn find_held(trackers: &[EwmaTracker; TRACKERS], id: &Id) -> Option<usize>
+    ensures { result ≡ placed 16 (find (holds_tracker id.now) trackers.now) }
 {
-    let id = tracker.id;
-    if tracker.active {
-        return id.prefix_len as usize <= PREFIX;
+    trackers.iter().position(|tracker| tracker.holds(id))
+}
+
+// The size is judged by the mean before it, then fed.
+fn feed_at(at: usize, held: EwmaTracker, payload_len: u16, now_us: u64) -> TrackerDecision
+    ensures { result ≡ feed_at at held payload_len now_us }
+{
+    let mut tracker = held;
+    let alert = tracker.is_anomaly(payload_len);
+    tracker.update(payload_len, now_us);
+    TrackerDecision { at, tracker, alert }
+}
+
+// What a fed message does to the table: nothing is stored.
+#[tactic(auto, unfolding(crate::specs::Trackers::feed))]
+pub fn ewma_update(
+    trackers: &[EwmaTracker; TRACKERS],
+    id: &Id,
+    payload_len: u16,
+    now_us: u64,
+) -> TrackerDecision
+    ensures { result ≡ feed trackers.now id.now payload_len now_us }
+{
+    match find_held(trackers, id) {
+        Some(at) => feed_at(at, trackers[at], payload_len, now_us),
+        None => feed_at(seat(trackers), EwmaTracker::new(id), payload_len, now_us),
     }
-    true
+}
+
+// The place of the tracker that a remove call removes (000 `remove_ewma_tracker`).
+pub fn removed_tracker(trackers: &[EwmaTracker; TRACKERS], id: &Id) -> Option<usize>
+    ensures { result ≡ placed 16 (removed_tracker id.now trackers.now) }
+{
+    trackers.iter().position(|tracker| tracker.is_gone(id))
 }

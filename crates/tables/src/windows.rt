@@ -1,8 +1,9 @@
 // CONNECT windows (document 01, "CONNECT windows and payload trackers"; 000 `ClientStormEntry`, `record_connect`, `detect_connect_storm`).
-ghost use Rattle.std.specs.Prelude.{cond, not, ◌≡◌, ◌+◌, ◌-◌, min, leb, ltb};
-ghost use Rattle.tables.specs.Scan.{find, least_of, least_place, any, seat};
-ghost use Rattle.tables.specs.Windows.{fresh_window, recorded, in_window, holds_client, connect_at, connect, empty_window, window_fine};
+ghost use Rattle.std.specs.Prelude.{◌≡◌, ◌≤◌, length};
+ghost use Rattle.tables.specs.Scan.{find, placed};
+ghost use Rattle.tables.specs.Windows.{fresh_window, recorded, count_from, in_window, holds_client, connect_at, connect, window_fine};
 
+use crate::slots::{Record, seat};
 use topics::hashes::ClientHashes;
 
 // How many CONNECT windows a monitor holds, and how many stamps a window keeps.
@@ -10,9 +11,9 @@ pub const WINDOWS: usize = 16;
 
 pub const STAMPS: usize = 16;
 
-const LAST: usize = WINDOWS - 1;
-
-#[derive(Clone, Copy)]
+// How many stamps of the ring count is a number beside it: number 10 refuses states in which it is over 16, which a type would exclude. `active` stays beside it: `calls`
+// sets and shows records that are not live (crates/calls/stdin), and the three tables share the trait `Record`.
+#[derive(Clone, Copy, Debug, PartialEq, Eq)]
 pub struct ClientStormEntry {
     pub client_hash: u32,
     pub client_hash2: u32,
@@ -24,199 +25,39 @@ pub struct ClientStormEntry {
 }
 
 // What a CONNECT does: `entry` is to be stored at `at`; `storm` denies the message.
-#[derive(Drop)]
+#[derive(Clone, Copy, Debug, PartialEq, Eq)]
 pub struct ConnectDecision {
     pub at: usize,
     pub entry: ClientStormEntry,
     pub storm: bool,
 }
 
-// One stamp more is held, until the ring is full.
-fn one_more(count: u8) -> u8
-    ensures { result ≡ cond (ltb count 16) (count + 1) count }
-{
-    if (count as usize) < STAMPS {
-        count + 1
-    } else {
-        count
+impl Record for ClientStormEntry {
+    ghost live = { λ e. e.active };
+
+    ghost stamp = { λ e. e.last_seen_us };
+
+    fn is_live(&self) -> bool {
+        self.active
+    }
+
+    fn stamp(&self) -> u64 {
+        self.last_seen_us
     }
 }
 
-// Records a CONNECT: the ring's next place takes the stamp (000 `record`).
-pub fn record(entry: ClientStormEntry, ts_us: u64) -> ClientStormEntry
-    ensures { result ≡ recorded entry ts_us }
+// How many stamps are at or above a time.
+#[tactic(auto)]
+fn stamps_from(stamps: &[u64], start: u64) -> usize
+    ensures count { result ≡ count_from start stamps.now }
+    ensures within { result ≤ length stamps.now }
 {
-    let place = entry.write_idx % 16;
-    let at = place as usize;
-    let mut next = entry;
-    next.timestamps[at] = ts_us;
-    next.count = one_more(entry.count);
-    next.write_idx = (place + 1) % 16;
-    next.last_seen_us = ts_us;
-    next
+    stamps.iter().filter(|&&stamp| start <= stamp).count()
 }
 
-// Where the window starts: now minus window, floor 0.
-fn start_of(now_us: u64, window_us: u64) -> u64
-    ensures { result ≡ now_us - window_us }
-{
-    if window_us < now_us {
-        now_us - window_us
-    } else {
-        0
-    }
-}
-
-// How many of the ring's 16 places hold a stamp.
-fn held_of(count: u8) -> usize
-    ensures { result ≡ min count 16 }
-{
-    let n = count as usize;
-    if n < STAMPS { n } else { STAMPS }
-}
-
-// 1 for a stamp at or above the window's start, 0 for one below.
-fn one_from(start: u64, stamp: u64) -> u8
-    ensures { result ≡ cond (leb start stamp) 1 0 }
-{
-    if start <= stamp { 1 } else { 0 }
-}
-
-// Counts the stamps in the window, later ones included (000 `count_in_window`).
-pub fn count_in_window(entry: ClientStormEntry, now_us: u64, window_us: u64) -> u8
-    ensures { result ≡ in_window entry now_us window_us }
-{
-    let stamps = entry.timestamps;
-    let held = held_of(entry.count);
-    let start = start_of(now_us, window_us);
-    let mut count: u8 = 0;
-    let mut i: usize = 0;
-    while i < held {
-        count += one_from(start, stamps[i]);
-        i += 1;
-    }
-    count
-}
-
-// A window that no CONNECT was recorded in yet.
-fn fresh_window(hashes: ClientHashes) -> ClientStormEntry
-    ensures { result ≡ fresh_window hashes }
-{
-    ClientStormEntry {
-        client_hash: hashes.hash,
-        client_hash2: hashes.hash2,
-        timestamps: [0; STAMPS],
-        count: 0,
-        write_idx: 0,
-        last_seen_us: 0,
-        active: true,
-    }
-}
-
-// A live window of a client: clients are told apart by the two hashes.
-fn is_client(entry: ClientStormEntry, hashes: ClientHashes) -> bool
-    ensures { result ≡ holds_client hashes entry }
-{
-    if !entry.active {
-        return false;
-    }
-    if entry.client_hash != hashes.hash {
-        return false;
-    }
-    entry.client_hash2 == hashes.hash2
-}
-
-// The first free place; 16 where there is none.
-fn find_free(clients: [ClientStormEntry; WINDOWS]) -> usize
-    ensures { result ≡ find (λ e. not e.active) clients }
-{
-    let mut i: usize = 0;
-    while i < WINDOWS {
-        let entry = clients[i];
-        if !entry.active {
-            return i;
-        }
-        i += 1;
-    }
-    i
-}
-
-// The place of the least last-seen. It counts down, so that `<=` leaves a tie to the first place.
-fn find_oldest(clients: [ClientStormEntry; WINDOWS]) -> usize
-    ensures { result ≡ least_place (least_of (λ e. e.last_seen_us) any clients) }
-{
-    let last = clients[LAST];
-    let mut time = last.last_seen_us;
-    let mut at: usize = LAST;
-    let mut i: usize = LAST;
-    while 0 < i {
-        i -= 1;
-        let entry = clients[i];
-        if entry.last_seen_us <= time {
-            time = entry.last_seen_us;
-            at = i;
-        }
-    }
-    at
-}
-
-// Where a newcomer's window goes.
-fn find_seat(clients: [ClientStormEntry; WINDOWS]) -> usize
-    ensures { result ≡ seat (λ e. not e.active) (λ e. e.last_seen_us) clients }
-{
-    let free = find_free(clients);
-    if free < WINDOWS {
-        return free;
-    }
-    find_oldest(clients)
-}
-
-// The CONNECT is recorded, then counted (000 `record_connect`, then `detect_connect_storm`).
-fn connect_at(
-    at: usize,
-    entry: ClientStormEntry,
-    now_us: u64,
-    threshold: u8,
-    window_us: u64,
-) -> ConnectDecision
-    ensures { result ≡ connect_at at entry now_us threshold window_us }
-{
-    let next = record(entry, now_us);
-    let count = count_in_window(next, now_us, window_us);
-    ConnectDecision {
-        at: at,
-        entry: next,
-        storm: threshold <= count,
-    }
-}
-
-// What a CONNECT does to the table (000 `record_connect`, `detect_connect_storm`).
-pub fn record_connect(
-    clients: [ClientStormEntry; WINDOWS],
-    hashes: ClientHashes,
-    now_us: u64,
-    threshold: u8,
-    window_us: u64,
-) -> ConnectDecision
-    ensures { result ≡ connect clients hashes now_us threshold window_us }
-{
-    let mut i: usize = 0;
-    while i < WINDOWS {
-        let entry = clients[i];
-        if is_client(entry, hashes) {
-            return connect_at(i, entry, now_us, threshold, window_us);
-        }
-        i += 1;
-    }
-    let at = find_seat(clients);
-    connect_at(at, fresh_window(hashes), now_us, threshold, window_us)
-}
-
-// A free place.
-pub fn empty_window() -> ClientStormEntry
-    ensures { result ≡ empty_window }
-{
-    ClientStormEntry {
+impl ClientStormEntry {
+    // A free place.
+    pub const FREE: ClientStormEntry = ClientStormEntry {
         client_hash: 0,
         client_hash2: 0,
         timestamps: [0; STAMPS],
@@ -224,15 +65,98 @@ pub fn empty_window() -> ClientStormEntry
         write_idx: 0,
         last_seen_us: 0,
         active: false,
+    };
+
+    // A window that no CONNECT was recorded in yet.
+    fn new(hashes: ClientHashes) -> ClientStormEntry
+        ensures { result ≡ fresh_window hashes }
+    {
+        ClientStormEntry {
+            client_hash: hashes.hash,
+            client_hash2: hashes.hash2,
+            active: true,
+            ..ClientStormEntry::FREE
+        }
+    }
+
+    // Records a CONNECT: the ring's next place takes the stamp.
+    #[tactic(auto, unfolding(crate::specs::Windows::recorded))]
+    pub fn record(&mut self, ts_us: u64)
+        ensures { self.new ≡ recorded self.old ts_us }
+    {
+        let at = usize::from(self.write_idx) % STAMPS;
+        self.timestamps[at] = ts_us;
+        if usize::from(self.count) < STAMPS {
+            self.count += 1;
+        }
+        self.write_idx = ((at + 1) % STAMPS) as u8;
+        self.last_seen_us = ts_us;
+    }
+
+    // Counts the stamps in the window, later ones included.
+    #[tactic(auto, unfolding(crate::specs::Windows::in_window))]
+    pub fn count_in_window(&self, now_us: u64, window_us: u64) -> u8
+        ensures { result ≡ in_window self.now now_us window_us }
+    {
+        let held = usize::from(self.count).min(STAMPS);
+        stamps_from(&self.timestamps[..held], now_us.saturating_sub(window_us)) as u8
+    }
+
+    // A live window of a client: clients are told apart by the two hashes.
+    #[tactic(auto, unfolding(crate::specs::Windows::holds_client))]
+    fn holds(&self, hashes: ClientHashes) -> bool
+        ensures { result ≡ holds_client hashes self.now }
+    {
+        self.active && self.client_hash == hashes.hash && self.client_hash2 == hashes.hash2
+    }
+
+    // Not a live record with a window count over 16 (number 10).
+    pub fn is_fine(&self) -> bool
+        ensures { result ≡ window_fine self.now }
+    {
+        !self.active || usize::from(self.count) <= STAMPS
     }
 }
 
-// Not a live record with a window count over 16 (number 10).
-pub fn window_fine(entry: ClientStormEntry) -> bool
-    ensures { result ≡ window_fine entry }
+// The place of a client's window.
+fn find_held(clients: &[ClientStormEntry; WINDOWS], hashes: ClientHashes) -> Option<usize>
+    ensures { result ≡ placed 16 (find (holds_client hashes) clients.now) }
 {
-    if entry.active {
-        return entry.count as usize <= STAMPS;
+    clients.iter().position(|entry| entry.holds(hashes))
+}
+
+// The CONNECT is recorded, then counted.
+fn connect_at(
+    at: usize,
+    held: ClientStormEntry,
+    now_us: u64,
+    threshold: u8,
+    window_us: u64,
+) -> ConnectDecision
+    ensures { result ≡ connect_at at held now_us threshold window_us }
+{
+    let mut entry = held;
+    entry.record(now_us);
+    let storm = threshold <= entry.count_in_window(now_us, window_us);
+    ConnectDecision { at, entry, storm }
+}
+
+// What a CONNECT does to the table: nothing is stored.
+#[tactic(auto, unfolding(crate::specs::Windows::connect))]
+pub fn record_connect(
+    clients: &[ClientStormEntry; WINDOWS],
+    hashes: ClientHashes,
+    now_us: u64,
+    threshold: u8,
+    window_us: u64,
+) -> ConnectDecision
+    ensures { result ≡ connect clients.now hashes now_us threshold window_us }
+{
+    match find_held(clients, hashes) {
+        Some(at) => connect_at(at, clients[at], now_us, threshold, window_us),
+        None => {
+            let fresh = ClientStormEntry::new(hashes);
+            connect_at(seat(clients), fresh, now_us, threshold, window_us)
+        }
     }
-    true
 }

@@ -1,5 +1,10 @@
 -- One answer for every public function of `slices`, and nothing asked of its caller (specs/One.antt). Assumes nothing.
+use Prim.Native.Nat.{ℕ, ◌<◌}
 use mathlib.Core.Path.{sym, ◌∙◌}
+use mir.Syntax.{w64}
+use mir.Val.{Fits}
+use denote.Param.{number}
+use Rattle.std.proofs.Common.{rules}
 use Rattle.slices.specs.contracts.bytes.same_bytes as bytes-same_bytes
 use Rattle.slices.proofs.bytes.same_bytes.Reads as bytes-same_bytes-reads
 use Rattle.slices.specs.contracts.bytes.starts_with as bytes-starts_with
@@ -10,6 +15,8 @@ use Rattle.slices.specs.contracts.bytes.count_byte as bytes-count_byte
 use Rattle.slices.proofs.bytes.count_byte.Reads as bytes-count_byte-reads
 use Rattle.slices.specs.contracts.bytes.find_byte as bytes-find_byte
 use Rattle.slices.proofs.bytes.find_byte.Reads as bytes-find_byte-reads
+use Rattle.slices.specs.contracts.bytes.padded as bytes-padded
+use Rattle.slices.proofs.bytes.padded.Reads as bytes-padded-reads
 use Rattle.theorems.specs.One.{Any, One}
 
 pub one-bytes-same_bytes : One bytes-same_bytes.ended bytes-same_bytes-reads.Post
@@ -41,3 +48,10 @@ one-bytes-find_byte κs a x y e f p q = p.0 ∙ sym q.0
 
 pub any-bytes-find_byte : Any bytes-find_byte.ended bytes-find_byte-reads.Asked
 any-bytes-find_byte κs a = tt
+
+-- for every length that an array of bytes can have
+pub one-bytes-padded : (N : ℕ) (F : Fits w64 N) → One (bytes-padded.ended (number N)) (bytes-padded-reads.Post N F)
+one-bytes-padded N F κs a x y e f p q = p ∙ sym q
+
+pub any-bytes-padded : (N : ℕ) (F : Fits w64 N) (S : N < 9223372036854775808) → Any (bytes-padded.ended (number N)) (bytes-padded-reads.Asked N F)
+any-bytes-padded N F S κs a = search rules

@@ -25,7 +25,7 @@ use Rattle.monitor.specs.Acts.{Other, Act, inspects, asks, Candidate, called, ou
 use Rattle.monitor.specs.Chosen.{Keeps}
 use Rattle.monitor.specs.Prepared.{Prepared}
 use Rattle.monitor.specs.Runs.{Call, Monitor, answer}
-use Rattle.monitor.specs.declared.inspection.Inspected.{Inspected}
+use Rattle.monitor.specs.Ended.{Inspected}
 use Rattle.monitor.specs.declared.state.MqttMonitor.{MqttMonitor}
 use Rattle.monitor.proofs.Acts.{Freed, kept, freed, beside}
 use Rattle.theorems.specs.Removals.{passed_in}

@@ -13,7 +13,7 @@ use Rattle.lines.specs.Span.{part}
 use Rattle.monitor.specs.Inspect.{done_with}
 use Rattle.monitor.specs.Runs.{Call, Exact, Reply, shipped, after_by, replies_by, is_inspected}
 use Rattle.monitor.specs.State.{well_formed, matcher_of}
-use Rattle.monitor.specs.declared.inspection.Inspected.{Inspected}
+use Rattle.monitor.specs.Ended.{Inspected}
 use Rattle.monitor.specs.declared.state.MqttMonitor.{MqttMonitor}
 use Rattle.monitor.proofs.state.KeptFormed.{kept_formed}
 use Rattle.monitor.proofs.Prepared.{prepared_sound}

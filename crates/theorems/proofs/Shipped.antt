@@ -8,7 +8,7 @@ use Rattle.monitor.specs.Acts.{ours}
 use Rattle.monitor.specs.Chosen.{Keeps}
 use Rattle.monitor.specs.Runs.{Call, answer, shipped, after_by, after}
 use Rattle.monitor.specs.State.{matcher_of}
-use Rattle.monitor.specs.declared.inspection.Inspected.{Inspected}
+use Rattle.monitor.specs.Ended.{Inspected}
 use Rattle.monitor.specs.declared.state.MqttMonitor.{MqttMonitor}
 use Rattle.monitor.proofs.Chosen.{one_matcher, as_chosen}
 use Rattle.theorems.specs.Run.{is_allowed, reaches, allowed_of}

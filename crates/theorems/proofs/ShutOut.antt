@@ -35,10 +35,8 @@ use Rattle.monitor.specs.Inspect.{applied, inspect_refusal, inspect_with}
 use Rattle.monitor.specs.Plan.{seen_of, spent_of, fed_of, denial_of, plan_from, plan_of}
 use Rattle.monitor.specs.Runs.{Call, Monitor, shipped, after_by}
 use Rattle.monitor.specs.State.{well_formed, matcher_of}
-use Rattle.monitor.specs.declared.inspection.Inspected.{Inspected}
+use Rattle.monitor.specs.Ended.{Inspected, Outcome, Done, Refused}
 use Rattle.monitor.specs.declared.state.MqttMonitor.{MqttMonitor}
-use Rattle.monitor.specs.declared.state.Outcome.{Outcome}
-use Rattle.monitor.specs.declared.state.Outcome.TheVariants.{Done, Refused}
 use Rattle.trace.specs.Groups.{opening_of, opening1, opening2}
 use Rattle.trace.specs.Record.{closing_text}
 use Rattle.trace.specs.Trace.{loaded_from, loaded, messages_of, text_from, trace_text, trace_end}

@@ -10,7 +10,7 @@ use Rattle.tables.specs.Scan.{find}
 use Rattle.tables.specs.declared.buckets.RateBucket.{RateBucket}
 use Rattle.tables.specs.declared.buckets.RateDecision.{RateDecision}
 use Rattle.tables.specs.declared.buckets.RateCheckResult.TheVariants.{Allowed, Limited}
-use Rattle.tables.specs.declared.buckets.Spent.{Spent}
+use Rattle.tables.specs.Buckets.{Spent}
 use Rattle.tables.specs.declared.identity.Id.{Id}
 use Rattle.monitor.specs.Inspect.{inspect_refusal, done_with}
 use Rattle.monitor.specs.Message.{used_topic, used_payload}

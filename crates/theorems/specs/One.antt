@@ -48,9 +48,10 @@ module _ (T : Ended) where
       (κs : Lives) (a : Args T.signature κs) (x y : Res T.signature κs) (e f : AtExit T κs)
       → promise κs a x e → promise κs a y f → seen κs x ≡ seen κs y
 
-  -- every result that a promise allows is what a definition hands back for the arguments
-  abbrev pub Is : Out → ((κs : Lives) → Args T.signature κs → Res T.signature κs) → Type 0
-  Is promise given = (κs : Lives) (a : Args T.signature κs) (x : Res T.signature κs) (e : AtExit T κs) → promise κs a x e → x ≡ given κs a
+  -- what every result that a promise allows tells, with what is left behind, is what a definition hands back for the arguments
+  abbrev pub Tells : Out → {L : Type 0} → ((κs : Lives) → Res T.signature κs → AtExit T κs → L) → ((κs : Lives) → Args T.signature κs → L) → Type 0
+  Tells promise told given =
+      (κs : Lives) (a : Args T.signature κs) (x : Res T.signature κs) (e : AtExit T κs) → promise κs a x e → told κs x e ≡ given κs a
 
   -- A call that the checker has no reading of, because it is proved by a walk, has its clauses alone, in any model of the program logic
   abbrev pub Written : Type 2

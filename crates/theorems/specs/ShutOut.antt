@@ -8,8 +8,7 @@ use Rattle.topics.specs.declared.matching.StandardMatch.{StandardMatch}
 use Rattle.monitor.specs.Calls.{validate_rules}
 use Rattle.monitor.specs.Runs.{Call, Monitor, shipped}
 use Rattle.monitor.specs.declared.state.MqttMonitor.{MqttMonitor}
-use Rattle.monitor.specs.declared.state.Outcome.{Outcome}
-use Rattle.monitor.specs.declared.state.Outcome.TheVariants.{Done}
+use Rattle.monitor.specs.Ended.{Outcome, Done}
 use Rattle.trace.specs.Trace.{trace_end}
 use Rattle.trace.specs.declared.run.TraceEnd.{TraceEnd}
 use Rattle.theorems.specs.Run.{Matcher}

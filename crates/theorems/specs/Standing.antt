@@ -9,11 +9,9 @@ use Rattle.tables.specs.Scan.{find}
 use Rattle.tables.specs.Standing.{opens, later_by, oldest_live}
 use Rattle.tables.specs.declared.buckets.RateBucket.{RateBucket}
 use Rattle.monitor.specs.Runs.{Call, shipped}
-use Rattle.monitor.specs.Standing.{stands_at, standing_in, kind_at, left_in}
+use Rattle.monitor.specs.Standing.{stands_at, standing_in, kind_at, left_in, Left, Outlook}
 use Rattle.monitor.specs.State.{matcher_of}
 use Rattle.monitor.specs.Told.{Taken, found_of}
-use Rattle.monitor.specs.declared.standing.Left.{Left}
-use Rattle.monitor.specs.declared.standing.Outlook.{Outlook}
 use Rattle.monitor.specs.declared.state.MqttMonitor.{MqttMonitor}
 use Rattle.theorems.specs.Run.{time, used, is_publish}
 use Rattle.theorems.specs.Shipped.{passes}

@@ -8,7 +8,7 @@ use crate::patterns::check_pattern;
 use slices::bytes::find_byte;
 
 // Which of the two a monitor takes for its rules: as the Rust answers, or as MQTT 3.1.1 section 4.7 does.
-#[derive(Clone, Copy)]
+#[derive(Clone, Copy, Debug, PartialEq, Eq)]
 pub enum Matching {
     Port,
     Standard,

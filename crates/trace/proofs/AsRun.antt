@@ -14,7 +14,7 @@ use Rattle.monitor.specs.Inspect.{applied, result_of}
 use Rattle.monitor.specs.Prepared.{Prepared, made, rule}
 use Rattle.monitor.specs.Runs.{Call, Exact, shipped, after_by, replies_by}
 use Rattle.monitor.specs.State.{well_formed}
-use Rattle.monitor.specs.declared.inspection.Inspected.{Inspected}
+use Rattle.monitor.specs.Ended.{Inspected}
 use Rattle.monitor.specs.declared.state.MqttMonitor.{MqttMonitor}
 use Rattle.monitor.proofs.Prepared.{prepared_sound}
 use Rattle.monitor.proofs.Replies.{AllExact, shipped_done, done_formed, run_inspected}

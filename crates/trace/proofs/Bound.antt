@@ -20,7 +20,7 @@ use Rattle.tables.proofs.rules.PlanLaws.{plan_cases}
 use Rattle.monitor.specs.Calls.{fresh, tested, add_rule}
 use Rattle.monitor.specs.Runs.{Call}
 use Rattle.monitor.specs.State.{well_formed, matcher_of, number_of}
-use Rattle.monitor.specs.declared.state.Called.{Called}
+use Rattle.monitor.specs.Ended.{Called}
 use Rattle.monitor.specs.declared.state.MqttMonitor.{MqttMonitor}
 use Rattle.rules_text.specs.RuleGroup.{rule_at}
 use Rattle.trace.specs.Groups.{opening_of, message_at}

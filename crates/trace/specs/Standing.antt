@@ -13,10 +13,8 @@ use Rattle.tables.specs.declared.standing.Opening.{Opening}
 use Rattle.tables.specs.declared.standing.Opening.TheVariants.{Never, From}
 use Rattle.monitor.specs.Message.{type_number}
 use Rattle.monitor.specs.Runs.{Call}
-use Rattle.monitor.specs.Standing.{standing_in, left_in}
+use Rattle.monitor.specs.Standing.{standing_in, left_in, Left, Outlook}
 use Rattle.monitor.specs.declared.message.MqttPacketType.{MqttPacketType}
-use Rattle.monitor.specs.declared.standing.Left.{Left}
-use Rattle.monitor.specs.declared.standing.Outlook.{Outlook}
 use Rattle.monitor.specs.declared.state.MqttMonitor.{MqttMonitor}
 use Rattle.trace.specs.Seen.{last_time, end_state, named_by, is_named}
 use Rattle.trace.specs.Trace.{messages_of}

@@ -1,45 +1,18 @@
--- What is true of a message's alerts. First the severities as the code's `match` tells kinds apart, and that raising what was found one after the other is raising the
--- list of its kinds. Then: there are at most four where a broad Subscribe feeds no tracker, so none is dropped; ids are never 0; the total counts each
--- alert, capped. Assumes nothing.
+-- What is true of a message's alerts. First: raising what was found one after the other is raising the list of its kinds.
+-- Then: there are at most four where a broad Subscribe feeds no tracker, so none is dropped; ids are never 0; the total counts each alert, capped. Assumes nothing.
 use mathlib.Core.Bool.{Bool, true, false}
 use mathlib.Core.List.{List, [], ◌∷◌, foldl, foldl-append}
-use mathlib.Core.Logic.{◌⊎◌, inl, inr}
-use mathlib.Core.Path.{◌≡◌, sym, ap}
+use mathlib.Core.Path.{◌≡◌}
 use Prim.Native.Nat.{ℕ, ◌+◌, ◌%◌, ◌^◌, ◌≤◌, ◌<◌, min}
 use native.Mathlib.Omega.{arith}
-use borrow.Author.Tests.{lt-ltb, ne_eqb, eqb-true, eqb-false}
+use borrow.Author.Tests.{lt-ltb, eqb-false}
 use lib.Dec.{eqb, ltb}
 use lib.ListN.{length, length-append}
 use Rattle.laws.proofs.Cases.{by}
 use Rattle.laws.proofs.Folds.{fold_keeps}
-use Rattle.monitor.specs.Alerts.{severity_of, when, kinds_of, id_after, counted, none_raised, raise, raise_all}
-use Rattle.monitor.specs.declared.alerts.AlertSeverity.TheVariants.{Low, Medium, High}
+use Rattle.monitor.specs.Alerts.{when, kinds_of, id_after, counted, none_raised, raise, raise_all}
 use Rattle.monitor.specs.declared.alerts.Findings.{Findings}
 use Rattle.monitor.specs.declared.alerts.Raised.{Raised}
-
--- the severity of a kind
-module _ (k : ℕ) where
-  pub high : (k ≡ 1) ⊎ ((k ≡ 6) ⊎ (k ≡ 9)) → High ≡ severity_of k
-  unfolding severity_of
-  high (inl e) = sym (ap severity_of e)
-  high (inr (inl e)) = sym (ap severity_of e)
-  high (inr (inr e)) = sym (ap severity_of e)
-
-  pub low_4 : k ≡ 4 → Low ≡ severity_of k
-  unfolding severity_of
-  low_4 e = sym (ap severity_of e)
-
-  pub low_7 : (k ≡ 6 → ⊥) → 6 ≤ k → k < 9 → Low ≡ severity_of k
-  unfolding severity_of
-  low_7 a h g =
-      by (eqb k 7)
-      (λ e. sym (ap severity_of (eqb-true k 7 e)))
-      (λ e. let b = eqb-false k 7 e in let z : k ≡ 8 = omega arith in sym (ap severity_of z))
-
-  pub medium : ((k ≡ 1) ⊎ ((k ≡ 6) ⊎ (k ≡ 9)) → ⊥) → (k ≡ 4 → ⊥) → (k ≡ 7 → ⊥) → (k ≡ 8 → ⊥) → Medium ≡ severity_of k
-  unfolding severity_of
-  medium h a b c =
-      rw (ne_eqb k 1 (λ e. h (inl e)), ne_eqb k 6 (λ e. h (inr (inl e))), ne_eqb k 9 (λ e. h (inr (inr e))), ne_eqb k 4 a, ne_eqb k 7 b, ne_eqb k 8 c)
 
 -- at most one kind
 when-length : (b : Bool) (k : ℕ) → length (when b k) ≤ 1
@@ -58,13 +31,7 @@ four f apart =
     (λ e. rw (e, apart e) (omega (arith, a, c, d)))
     (λ e. let g = when-length f.anomaly 7 in rw e (omega (arith, a, c, d, g))))
 
--- ids count on
-pub id_on : (id : ℕ) → id < 18446744073709551615 → id + 1 ≡ id_after id
-id_on id h =
-    let e : (id + 1) % 2 ^ 64 ≡ id + 1 = omega arith in
-    let z : eqb (id + 1) 0 ≡ false = ne_eqb (id + 1) 0 (λ q. omega arith) in rw (e, z)
-
--- and are never 0
+-- ids are never 0
 id_after_0 : (id : ℕ) → id_after id ≡ 0 → ⊥
 id_after_0 id e = by (eqb ((id + 1) % 2 ^ 64) 0) (λ t. let z : ◌≡◌ {A = ℕ} 1 0 = rw t at e in omega arith) (λ t. eqb-false _ _ t (rw t at e))
 

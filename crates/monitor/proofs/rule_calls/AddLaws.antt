@@ -1,7 +1,7 @@
--- `add_rule` behind number 10's test, and what it hands out in a state that passes the test, which is what its plan says. Assumes nothing.
-use mathlib.Core.Bool.{Bool, true, false, not}
+-- What `add_rule` hands out in a state that passes number 10's test, which is what its plan says. Assumes nothing.
+use mathlib.Core.Bool.{true}
 use mathlib.Core.List.{List}
-use mathlib.Core.Path.{◌≡◌, refl, sym}
+use mathlib.Core.Path.{◌≡◌, sym}
 use Prim.Native.Nat.{ℕ}
 use borrow.Author.Tests.{eq-eqb, ne_eqb, eqb-true}
 use lib.Dec.{eqb}
@@ -9,25 +9,12 @@ use Rattle.laws.proofs.Cases.{by}
 use Rattle.tables.specs.Rules.{rule_plan}
 use Rattle.tables.specs.declared.rules.QosPolicy.{QosPolicy}
 use Rattle.tables.specs.declared.rules.TopicAction.{TopicAction}
-use Rattle.tables.specs.declared.rules.RulePlan.{RulePlan}
-use Rattle.monitor.specs.Calls.{with_rule, shadows_in, add_rule}
+use Rattle.tables.specs.Rules.{RulePlan}
+use Rattle.monitor.specs.Calls.{with_rule, add_rule}
 use Rattle.monitor.specs.State.{well_formed, number_of}
 use Rattle.monitor.specs.declared.state.MqttMonitor.{MqttMonitor}
-use Rattle.monitor.specs.declared.state.Outcome.TheVariants.{Done, Refused}
-use Rattle.monitor.proofs.state.EndedLaws.{ended_by, ended_done}
 
 module _ (m : MqttMonitor) (p : List ℕ) (action : TopicAction) (policy : QosPolicy) (rate : ℕ) {plan : RulePlan} (e : plan ≡ rule_plan m.rules m.rule_count p action policy rate) where
-  module _ {formed : Bool} (test : formed ≡ well_formed m) (fine : not formed ≡ false) where
-    -- the plan refuses the rule
-    pub add_refused : (plan.number ≡ 0 → ⊥) → record { outcome = Refused plan.number; monitor = m } ≡ add_rule m p action policy rate
-    unfolding add_rule
-    add_refused h = rw (← e) (ended_by m test plan.number _ _ fine refl (ne_eqb plan.number 0 h))
-
-    -- it has a place
-    pub add_stored : plan.number ≡ 0 → record { outcome = Done (shadows_in (with_rule m plan)); monitor = with_rule m plan } ≡ add_rule m p action policy rate
-    unfolding add_rule
-    add_stored h = rw (← e) (ended_done m test plan.number _ _ fine h)
-
   module _ (formed : well_formed m ≡ true) where
     -- the number that refuses a rule is its plan's
     pub add_number : number_of (add_rule m p action policy rate).outcome ≡ plan.number

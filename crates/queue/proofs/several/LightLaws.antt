@@ -11,7 +11,7 @@ use Rattle.monitor.specs.Light.{is_light}
 use Rattle.monitor.specs.Plan.{plan_of}
 use Rattle.monitor.specs.Runs.{Call, Exact, shipped, replies_by}
 use Rattle.monitor.specs.State.{well_formed, matcher_of, with_counters}
-use Rattle.monitor.specs.declared.inspection.Inspected.{Inspected}
+use Rattle.monitor.specs.Ended.{Inspected}
 use Rattle.monitor.specs.declared.plan.Plan.{Plan}
 use Rattle.monitor.specs.declared.state.MqttMonitor.{MqttMonitor}
 use Rattle.monitor.proofs.Light.{light}

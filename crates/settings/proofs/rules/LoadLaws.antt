@@ -13,7 +13,7 @@ use Rattle.topics.proofs.patterns.PatternLaws.{accepted_length}
 use Rattle.forms.specs.Form.{Took, took, stopped, on_took, read_all}
 use Rattle.tables.specs.Rules.{empty_rule, rule_of, is_held, rule_plan}
 use Rattle.tables.specs.declared.rules.QosPolicy.{QosPolicy}
-use Rattle.tables.specs.declared.rules.RulePlan.{RulePlan}
+use Rattle.tables.specs.Rules.{RulePlan}
 use Rattle.tables.specs.declared.rules.TopicAction.{TopicAction}
 use Rattle.tables.specs.declared.rules.TopicRule.{TopicRule}
 use Rattle.tables.proofs.rules.PlanLaws.{plan_cases}

@@ -1,13 +1,12 @@
 -- Laws of `same`, the test of equal lists of bytes: it answers true for equal lists and for no others, in either order.
 -- Assumes nothing.
-use mathlib.Core.Bool.{true, false, false≢true}
+use mathlib.Core.Bool.{true, false≢true}
 use mathlib.Core.List.{List, [], ◌∷◌}
-use mathlib.Core.Path.{◌≡◌, refl, sym, ap}
+use mathlib.Core.Path.{◌≡◌, refl, sym}
 use Prim.Native.Nat.{ℕ}
 use lib.Dec.{eqb}
-use lib.ListN.{length}
 use borrow.Author.Tests.{eqb-true, eq-eqb}
-use Rattle.laws.proofs.Tests.{both, alike, fails}
+use Rattle.laws.proofs.Tests.{both, alike}
 use Rattle.slices.specs.Bytes.{same}
 
 -- the test of two bytes, in either order
@@ -37,11 +36,3 @@ same_sym [] [] = refl
 same_sym [] (y ∷ b) = refl
 same_sym (x ∷ a) [] = refl
 same_sym (x ∷ a) (y ∷ b) = rw (eqb_sym x y, same_sym a b)
-
--- lists that the test takes are equally long
-same-length : (a b : List ℕ) → same a b ≡ true → length a ≡ length b
-same-length a b e = ap length (same-true a b e)
-
--- lists of two lengths are refused
-pub same_apart : (a b : List ℕ) → (length a ≡ length b → ⊥) → same a b ≡ false
-same_apart a b n = fails (same a b) (λ e. n (same-length a b e))

@@ -15,7 +15,7 @@ use Rattle.laws.proofs.Cases.{by}
 use Rattle.tables.specs.Buckets.{with_tokens, risen, latest, refilled, spend, made, bucket_fine}
 use Rattle.tables.specs.declared.identity.Id.{Id}
 use Rattle.tables.specs.declared.buckets.RateBucket.{RateBucket}
-use Rattle.tables.specs.declared.buckets.Spent.{Spent}
+use Rattle.tables.specs.Buckets.{Spent}
 
 -- what a bucket holds, in millionths of a token
 abbrev pub level : RateBucket → ℕ

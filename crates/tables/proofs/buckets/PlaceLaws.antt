@@ -49,10 +49,6 @@ least_expired : (t : ℕ) (bs : List RateBucket) → least_of time_of (λ b. is_
 unfolding is_expired
 least_expired t bs = least_passing time_of (λ b. is_expired b t) (late t) (λ b. refl) (late_down t) bs
 
--- the least of all 32 stands in the table
-pub oldest_lt : (bs : List RateBucket) {at : ℕ} → length bs ≡ 32 → at ≡ least_place (least_of time_of any bs) → at < 32
-oldest_lt bs n e = let k = place_lt time_of no_bucket bs (omega arith) in omega arith
-
 module _ (bs : List RateBucket) (t : ℕ) {at : ℕ} (here : at ≡ least_place (least_of time_of any bs)) (some : 0 < length bs) where
   -- the least of all, with its place
   least_here : least_of time_of any bs ≡ least at (time_of (get_or bs at no_bucket))

@@ -1,42 +1,39 @@
--- What the two loops of the cover report see at one place: the search of the rules before one, and what is left to write of the report. Assumes nothing.
-use mathlib.Core.Bool.{Bool, true, false}
+-- The number of a place that was found, and what is left to write of the cover report at one place. Assumes nothing.
+use mathlib.Core.Bool.{Bool}
 use mathlib.Core.List.{List, [], ◌∷◌, ◌++◌}
-use mathlib.Core.Path.{◌≡◌, refl, ◌∙◌, ap}
+use mathlib.Core.Path.{◌≡◌, refl, sym, ◌∙◌, ap}
 use Prim.Native.Nat.{ℕ, suc, ◌+◌, ◌-◌, ◌<◌, ◌≤◌, min}
 use native.Mathlib.Numerals.{add-one}
 use native.Mathlib.Omega.{arith}
-use borrow.Author.Tests.{lt-ltb, le-ltb}
+use lib.Dec.{ltb}
 use lib.ListN.{length, take, drop, get_or, set, replicate, length-take, drop_of_length-le}
-use lib.Seq.{sets, sets-eq, drop-cons, get_or-take, take-suc, length-take-le}
+use lib.Seq.{sets, sets-eq, drop-cons, get_or-take, take-suc}
+use Rattle.std.specs.Prelude.{Option, Some, None}
+use Rattle.std.specs.List.{position}
+use Rattle.laws.proofs.Cases.{by}
 use Rattle.laws.proofs.Lists.{drop-replicate}
 use Rattle.topics.specs.declared.matching.Matching.{Matching}
 use Rattle.tables.specs.Covers.{rule_covers, first_number, covers_after, cover_report}
 use Rattle.tables.specs.Rules.{no_rule}
-use Rattle.tables.specs.Scan.{find}
+use Rattle.tables.specs.Scan.{find, placed}
 use Rattle.tables.specs.declared.rules.TopicRule.{TopicRule}
-use Rattle.tables.proofs.ScanLaws.{find_here, find_next, find_done}
+use Rattle.tables.proofs.ScanLaws.{place_found}
 
--- the search of the rules before `at`
-module _ (p : TopicRule → Bool) (rules : List TopicRule) (at i : ℕ) (fits : at ≤ length rules) (inv : find p (take at rules) ≡ i + find p (drop i (take at rules))) where
-  many : length (take at rules) ≡ at
-  many = length-take-le at rules fits
-
-  pub number_here : i < at → p (get_or rules i no_rule) ≡ true → i + 1 ≡ first_number p (take at rules)
+-- the number of a place that was found, or that none was
+module _ {A : Type 0} (p : A → Bool) (l : List A) {r : Option ℕ} (found : r ≡ position p l) where
+  pub number_some : {at : ℕ} → r ≡ Some at → at + 1 ≡ first_number p l
   unfolding first_number
-  number_here h e =
-      let m = many in
-      let f = find_here p (take at rules) no_rule (omega arith) inv (rw (get_or-take at rules i no_rule h) e) in
-      rw (lt-ltb (find p (take at rules)) (length (take at rules)) (omega arith), ← f)
+  number_some {at} e =
+      let t : placed (length l) (find p l) ≡ Some at = sym (place_found p l found refl) ∙ e in
+      by (ltb (find p l) (length l))
+      (λ h. let u : Some (find p l) ≡ Some at = rw h at t in let v : find p l ≡ at = cc in rw h (omega arith))
+      (λ h. let u : None ≡ Some at = rw h at t in cc)
 
-  pub number_next : i < at → p (get_or rules i no_rule) ≡ false → find p (take at rules) ≡ i + 1 + find p (drop (i + 1) (take at rules))
-  number_next h e = let m = many in find_next p (take at rules) no_rule (omega arith) inv (rw (get_or-take at rules i no_rule h) e)
-
-  pub number_none : i ≤ at → at ≤ i → 0 ≡ first_number p (take at rules)
+  pub number_none : r ≡ None → 0 ≡ first_number p l
   unfolding first_number
-  number_none h g =
-      let m = many in
-      let f = find_done p (take at rules) (omega arith) (omega arith) inv in
-      rw (le-ltb (find p (take at rules)) (length (take at rules)) (omega arith))
+  number_none e =
+      let t : placed (length l) (find p l) ≡ None = sym (place_found p l found refl) ∙ e in
+      by (ltb (find p l) (length l)) (λ h. let u : Some (find p l) ≡ None = rw h at t in cc) (λ h. rw h refl)
 
 -- how many rules are reported on
 pub after_length : (matching : Matching) (before l : List TopicRule) → length (covers_after matching before l) ≡ length l

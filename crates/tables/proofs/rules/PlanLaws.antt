@@ -1,58 +1,33 @@
--- The ways through `plan_rule`: the pattern's own number, an equal pattern, a full table, a new rule; and that a rule that is taken has a place. Assumes nothing.
+-- The ways through `rule_plan`: the pattern's own number, an equal pattern, a full table, a new rule; that a rule that is taken has a place; last, that a plan tells the whole answer. Assumes nothing.
 use mathlib.Core.Bool.{Bool, true, false}
 use mathlib.Core.List.{List}
-use mathlib.Core.Path.{◌≡◌, sym, ◌∙◌}
+use mathlib.Core.Path.{◌≡◌, refl, sym, ap, ◌∙◌}
 use Prim.Native.Nat.{ℕ, ◌+◌, ◌≤◌, ◌<◌, min}
 use native.Mathlib.Omega.{arith}
-use borrow.Author.Tests.{lt-ltb, le-ltb, ltb-true, ltb-false, eq-eqb, ne_eqb, eqb-true, eqb-false}
+use borrow.Author.Tests.{lt-ltb, ltb-true, ltb-false, eq-eqb, eqb-true, eqb-false}
 use lib.Dec.{eqb, ltb}
 use lib.ListN.{get_or}
-use Rattle.laws.proofs.Cases.{by, choose}
+use Rattle.laws.proofs.Cases.{choose}
 use Rattle.topics.specs.Patterns.{pattern_refusal}
 use Rattle.tables.specs.Rules.{equal_rule, no_rule}
 use Rattle.tables.specs.declared.rules.QosPolicy.{QosPolicy}
 use Rattle.tables.specs.declared.rules.TopicAction.{TopicAction}
 use Rattle.tables.specs.declared.rules.TopicRule.{TopicRule}
-use Rattle.tables.specs.Rules.{rule_of, overwritten, is_held, not_taken, rule_plan}
-use Rattle.tables.specs.declared.rules.RulePlan.{RulePlan}
-
--- whether a place counts: from 32 on none does, below it those below the count
-pub from_32 : (at n : ℕ) → 32 ≤ at → false ≡ ltb at (min n 32)
-from_32 at n h = sym (le-ltb at (min n 32) (omega (arith, h)))
-
-pub below_32 : (at n : ℕ) → at < 32 → ltb at n ≡ ltb at (min n 32)
-below_32 at n h =
-    by (ltb at n)
-    (λ e. rw e (sym (lt-ltb at (min n 32) (omega (arith, h, ltb-true at n e)))))
-    (λ e. rw e (sym (le-ltb at (min n 32) (omega (arith, h, ltb-false at n e)))))
-
-pub counts_below : (at n : ℕ) {held : Bool} → held ≡ ltb at (min n 32) → held ≡ true → at < 32
-counts_below at n test h = omega (arith, ltb-true at (min n 32) (sym test ∙ h))
+use Rattle.std.specs.Prelude.{Result, Ok, Err}
+use Rattle.tables.specs.Rules.{rule_of, overwritten, is_held, not_taken, rule_plan, rule_number, told_plan}
+use Rattle.tables.specs.declared.rules.Placement.{Placement}
+use Rattle.tables.specs.declared.rules.RuleRefusal.{RuleRefusal}
+use Rattle.tables.specs.declared.rules.RuleRefusal.TheVariants.{TableFull, BadPattern, NotUtf8}
+use Rattle.tables.specs.Rules.{RulePlan}
 
 module _ (rules : List TopicRule) (n : ℕ) (p : List ℕ) (action : TopicAction) (policy : QosPolicy) (rate : ℕ) where
   module _ {k : ℕ} (says : k ≡ pattern_refusal p) where
-    -- the pattern is refused
-    pub plan_own : (k ≡ 0 → ⊥) → not_taken k n ≡ rule_plan rules n p action policy rate
-    unfolding rule_plan
-    plan_own h = rw (← says, ne_eqb k 0 h)
-
     module _ (ok : k ≡ 0) {at : ℕ} (found : at ≡ equal_rule p rules n) {held : Bool} (test : held ≡ ltb at (min n 32)) where
       right : eqb (pattern_refusal p) 0 ≡ true
       right = eq-eqb (pattern_refusal p) 0 (sym says ∙ ok)
 
       told : {b : Bool} → held ≡ b → is_held rules n p ≡ b
       told h = rw (← found) (sym test ∙ h)
-
-      -- an equal pattern is held: it is overwritten in place
-      pub plan_held : held ≡ true
-          → record { number = 0; at = at; rule = overwritten (get_or rules at no_rule) action policy rate; count = n } ≡ rule_plan rules n p action policy rate
-      unfolding rule_plan
-      plan_held h = rw (right, told h, found)
-
-      -- the table is full
-      pub plan_full : held ≡ false → 32 ≤ n → not_taken 6 n ≡ rule_plan rules n p action policy rate
-      unfolding rule_plan
-      plan_full h full = rw (right, told h, le-ltb n 32 full)
 
       -- a new rule comes last
       pub plan_new : held ≡ false → n < 32
@@ -81,3 +56,30 @@ module _ (rules : List TopicRule) (n : ℕ) (p : List ℕ) (action : TopicAction
   -- a rule that is taken has a place
   pub plan_place : {plan : RulePlan} → plan ≡ rule_plan rules n p action policy rate → plan.number ≡ 0 → plan.at < 32
   plan_place e z = rw e (place (rw e at z))
+
+-- an answer is told by its plan
+rule_once : (e f : RuleRefusal) → rule_number e ≡ rule_number f → e ≡ f
+rule_once TableFull TableFull p = refl
+rule_once TableFull BadPattern p = absurd (omega (arith, p))
+rule_once TableFull NotUtf8 p = absurd (omega (arith, p))
+rule_once BadPattern TableFull p = absurd (omega (arith, p))
+rule_once BadPattern BadPattern p = refl
+rule_once BadPattern NotUtf8 p = absurd (omega (arith, p))
+rule_once NotUtf8 TableFull p = absurd (omega (arith, p))
+rule_once NotUtf8 BadPattern p = absurd (omega (arith, p))
+rule_once NotUtf8 NotUtf8 p = refl
+
+rule_real : (e : RuleRefusal) → 1 ≤ rule_number e
+rule_real TableFull = omega arith
+rule_real BadPattern = omega arith
+rule_real NotUtf8 = omega arith
+
+pub told_once : (n : ℕ) (r s : Result Placement RuleRefusal) → told_plan n r ≡ told_plan n s → r ≡ s
+told_once n (Ok p) (Ok q) e =
+    let at : p.at ≡ q.at = ap (λ (d : RulePlan). d.at) e in
+    let rule : p.rule ≡ q.rule = ap (λ (d : RulePlan). d.rule) e in
+    let count : p.count ≡ q.count = ap (λ (d : RulePlan). d.count) e in
+    rw (at, rule, count)
+told_once n (Ok p) (Err f) e = let k = ap (λ (d : RulePlan). d.number) e in absurd (omega (arith, k, rule_real f))
+told_once n (Err d) (Ok q) e = let k = ap (λ (d : RulePlan). d.number) e in absurd (omega (arith, k, rule_real d))
+told_once n (Err d) (Err f) e = ap Err (rule_once d f (ap (λ (d : RulePlan). d.number) e))

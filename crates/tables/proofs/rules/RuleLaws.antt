@@ -1,10 +1,10 @@
 -- What is true of one rule, for `rule_fine` and the two tests, and of a search of the rule table, for `equal_rule` and the monitor's `rule_for`. Assumes nothing.
-use mathlib.Core.Bool.{Bool, true, false, not, ◌&&◌}
+use mathlib.Core.Bool.{Bool, true, false, ◌&&◌}
 use mathlib.Core.List.{List}
 use mathlib.Core.Path.{◌≡◌, sym, ap}
 use Prim.Native.Nat.{ℕ, ◌+◌, ◌≤◌, ◌<◌, min}
 use native.Mathlib.Omega.{arith}
-use borrow.Author.Tests.{lt-leb, le-leb, leb-true, eqb-true, not-true, not-false}
+use borrow.Author.Tests.{leb-true, eqb-true}
 use lib.Dec.{eqb, leb}
 use lib.ListN.{length, take, drop, get_or, length-take}
 use lib.Seq.{get_or-take}
@@ -25,19 +25,6 @@ module _ (r : TopicRule) where
   pub lent : {n : ℕ} → length r.pattern ≡ 64 → n ≡ min r.pattern_len 64 → take n r.pattern ≡ pattern_of r
   lent {n} h e =
       let m : n ≡ min r.pattern_len (length r.pattern) = omega arith in rw m (sym (take-min r.pattern_len r.pattern))
-
-  -- the ways through `rule_fine`: a rule that is not live, one with a pattern too long, and one whose pattern is asked
-  pub fine_dead : not r.active ≡ true → false ≡ rule_fine r
-  unfolding rule_fine
-  fine_dead e = let d : r.active ≡ false = not-true _ e in rw d
-
-  pub fine_long : not r.active ≡ false → 64 < r.pattern_len → false ≡ rule_fine r
-  unfolding rule_fine
-  fine_long e l = let a : r.active ≡ true = not-false _ e in rw (a, lt-leb _ _ l)
-
-  pub fine_asked : {x : ℕ} → not r.active ≡ false → r.pattern_len ≤ 64 → x ≡ pattern_refusal (pattern_of r) → eqb x 0 ≡ rule_fine r
-  unfolding rule_fine
-  fine_asked e l x = let a : r.active ≡ true = not-false _ e in rw (a, le-leb _ _ l, x)
 
   -- a fine rule is live, its pattern fits, and `add_rule` takes it
   pub fine_says : rule_fine r ≡ true → (r.active ≡ true) × (r.pattern_len ≤ 64) × (pattern_refusal (pattern_of r) ≡ 0)

@@ -18,7 +18,7 @@ use Rattle.tables.specs.Standing.{opens, later_by, opening_of, opening_new, pros
 use Rattle.tables.specs.declared.identity.Id.{Id}
 use Rattle.tables.specs.declared.buckets.RateBucket.{RateBucket}
 use Rattle.tables.specs.declared.buckets.RateCheckResult.TheVariants.{Allowed, Limited, EvictedAndDenied}
-use Rattle.tables.specs.declared.buckets.Spent.{Spent}
+use Rattle.tables.specs.Buckets.{Spent}
 use Rattle.tables.proofs.ScanLaws.{find-lt, find_before, find_none, place_lt, least_at, seat-free, seat_least, seat-lt}
 use Rattle.tables.proofs.buckets.BucketLaws.{keeps}
 use Rattle.tables.proofs.buckets.PlaceLaws.{time_of, is_free, is_open, newcomer_put}

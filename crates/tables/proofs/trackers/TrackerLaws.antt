@@ -1,7 +1,7 @@
 -- Payload trackers: what a fed message does to the table. Last, what the crates above need: the tracker handed back
 -- is fine if the table's were and the topic's prefix length is. Assumes nothing.
 use mathlib.Core.Path.{◌≡◌}
-use mathlib.Core.Bool.{Bool, true, not, ◌&&◌}
+use mathlib.Core.Bool.{Bool, true, not}
 use mathlib.Core.List.{List}
 use Prim.Native.Nat.{ℕ, ◌<◌, ◌≤◌}
 use borrow.Author.Tests.{le-leb}
@@ -9,10 +9,9 @@ use lib.ListN.{length, get_or}
 use Rattle.tables.specs.declared.identity.Id.{Id}
 use Rattle.tables.specs.declared.trackers.EwmaTracker.{EwmaTracker}
 use Rattle.tables.specs.declared.trackers.TrackerDecision.{TrackerDecision}
-use Rattle.tables.specs.Identity.{is_removed}
-use Rattle.tables.specs.Scan.{find, seat}
+use Rattle.tables.specs.Scan.{seat}
 use Rattle.tables.specs.Trackers.{fed, fresh_tracker, holds_tracker, no_tracker, feed_at, feed, tracker_fine}
-use Rattle.tables.proofs.LookupLaws.{held, new, looked_up}
+use Rattle.tables.proofs.LookupLaws.{looked_up}
 
 -- what a newcomer's place is chosen by: a free one, else the least update time
 abbrev pub is_free : EwmaTracker → Bool
@@ -21,24 +20,11 @@ is_free k = not k.active
 abbrev pub last_update : EwmaTracker → ℕ
 last_update k = k.last_update_us
 
--- a live tracker that a remove call means
-abbrev pub is_gone : Id → EwmaTracker → Bool
-is_gone id k = k.active && is_removed id k.id
-
 -- what a fed message does, from the search for the topic's tracker and the choice of a place
 module _ (ks : List EwmaTracker) (id : Id) (size t : ℕ) where
   -- the answer at a place
   abbrev at : ℕ → EwmaTracker → TrackerDecision
   at i k = feed_at i k size t
-
-  pub feed_held : {i : ℕ} {d : TrackerDecision} → i ≡ find (holds_tracker id) ks → i < length ks → d ≡ at i (get_or ks i no_tracker) → d ≡ feed ks id size t
-  unfolding feed
-  feed_held = held (holds_tracker id) ks no_tracker at (seat is_free last_update ks) (fresh_tracker id)
-
-  pub feed_new : {i j : ℕ} {k : EwmaTracker} {d : TrackerDecision} → i ≡ find (holds_tracker id) ks → length ks ≤ i → j ≡ seat is_free last_update ks
-      → k ≡ fresh_tracker id → d ≡ at j k → d ≡ feed ks id size t
-  unfolding feed
-  feed_new = new (holds_tracker id) ks no_tracker at (seat is_free last_update ks) (fresh_tracker id)
 
   feed_either : (P : TrackerDecision → Type 0) → ((i : ℕ) → i < length ks → holds_tracker id (get_or ks i no_tracker) ≡ true → P (at i (get_or ks i no_tracker)))
       → P (at (seat is_free last_update ks) (fresh_tracker id)) → P (feed ks id size t)

@@ -18,7 +18,7 @@ use Rattle.tables.specs.declared.rules.TopicAction.{TopicAction}
 use Rattle.tables.specs.declared.rules.TopicAction.TheVariants.{Allow}
 use Rattle.tables.specs.declared.rules.TopicRule.{TopicRule}
 use Rattle.tables.specs.declared.rules.QosPolicy.{QosPolicy}
-use Rattle.tables.specs.declared.rules.RulePlan.{RulePlan}
+use Rattle.tables.specs.Rules.{RulePlan}
 use Rattle.monitor.specs.Calls.{fresh, tested, add_rule}
 use Rattle.monitor.specs.Sound.{Sound}
 use Rattle.monitor.specs.State.{well_formed}

@@ -19,7 +19,7 @@ use Rattle.monitor.specs.Inspect.{inspect_with}
 use Rattle.monitor.specs.Message.{type_number}
 use Rattle.monitor.specs.Runs.{Call, shipped, after_by}
 use Rattle.monitor.specs.State.{matcher_of, with_rules}
-use Rattle.monitor.specs.declared.inspection.Inspected.{Inspected}
+use Rattle.monitor.specs.Ended.{Inspected}
 use Rattle.monitor.specs.declared.state.MqttMonitor.{MqttMonitor}
 use Rattle.trace.specs.Groups.{message_at, topic_in, payload_in}
 use Rattle.trace.specs.Seen.{sent_from, first_place, last_time, end_state, seen_in, named_by, is_publish, is_named}

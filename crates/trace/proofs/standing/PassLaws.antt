@@ -19,10 +19,8 @@ use Rattle.tables.specs.Standing.{oldest_live, oldest_first}
 use Rattle.tables.specs.declared.buckets.RateBucket.{RateBucket}
 use Rattle.monitor.specs.Message.{type_number}
 use Rattle.monitor.specs.Runs.{Call}
-use Rattle.monitor.specs.Standing.{standing_in, left_in}
+use Rattle.monitor.specs.Standing.{standing_in, left_in, Left, Outlook}
 use Rattle.monitor.specs.declared.message.MqttPacketType.{MqttPacketType}
-use Rattle.monitor.specs.declared.standing.Left.{Left}
-use Rattle.monitor.specs.declared.standing.Outlook.{Outlook}
 use Rattle.monitor.specs.declared.state.MqttMonitor.{MqttMonitor}
 use Rattle.trace.specs.Groups.{message_at, topic_in}
 use Rattle.trace.specs.Seen.{sent_from, seen_in, named_by, is_named}

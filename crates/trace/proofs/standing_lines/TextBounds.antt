@@ -13,8 +13,7 @@ use Rattle.topics.specs.Shown.{shown}
 use Rattle.topics.proofs.shown.ShownLaws.{shown-length}
 use Rattle.tables.specs.declared.standing.Opening.{Opening}
 use Rattle.tables.specs.declared.standing.Opening.TheVariants.{Never, From}
-use Rattle.monitor.specs.declared.standing.Left.{Left}
-use Rattle.monitor.specs.declared.standing.Outlook.{Outlook}
+use Rattle.monitor.specs.Standing.{Left, Outlook}
 use Rattle.trace.specs.Standing.{name_text, opening_text, tokens_of, topic_text}
 
 -- the opening's time, where it has one, has 64 bits

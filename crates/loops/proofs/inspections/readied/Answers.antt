@@ -1,6 +1,6 @@
--- `inspections::readied` meets its contract: a fresh monitor gets the rules. Assumes nothing.
-use Rattle.loops.proofs.inspections.LoopLaws.{held_start}
+-- `inspections::readied` meets its contract. Assumes nothing.
+use Rattle.loops.proofs.inspections.LoopLaws.{ruled_turn}
 use Rattle.loops.proofs.inspections.readied.Goals as goal
 
-pub returns : goal.returns
-returns c = held_start _ c.fresh-m.ensures c.held-table.ensures
+pub loop-k-preserved : goal.loop-k-preserved
+loop-k-preserved c = ruled_turn c.loop-k.k c.pattern_at.ensures (rw c.loop-k.invariant at c.add_pattern.ensures)

@@ -4,6 +4,5 @@ use Rattle.monitor.proofs.alerts.raise_all.Goals as goal
 
 pub returns : goal.returns
 returns c =
-    raised_five _ _ c.args.found c.none_raised-none.ensures
-    c.raise_if-clock.ensures c.raise_if-broad.ensures c.raise_if-qos.ensures
-    c.raise_if-denial.ensures c.raise_if.ensures
+    raised_five _ _ c.args.found.now c.none-raised.ensures c.raise_if.ensures c.raise_if-2.ensures c.raise_if-3.ensures c.raise_if-4.ensures
+    c.raise_if-5.ensures

@@ -1,24 +1,12 @@
-use mathlib.Core.Path.{◌≡◌, sym, ◌∙◌}
-use native.Mathlib.Omega.{arith}
-use borrow.Author.Rules.{rules}
-use lib.ListN.{length}
-use Rattle.laws.proofs.Every.{every_not, every_next, every_done}
-use Rattle.tables.specs.Trackers.{tracker_fine, no_tracker}
+-- `state::trackers_fine` meets its contract: the chain's word is `every`. Assumes nothing.
+use Rattle.std.proofs.Common.{◌∙◌, rules, tests}
+use Rattle.std.proofs.lemmas.Iterator.{YieldsList-from_slice}
+use Rattle.std.proofs.lemmas.Iterator.Search.{all_from_yields_List}
+use Rattle.laws.proofs.Every.{list_all_every}
+use Rattle.tables.specs.Trackers.{tracker_fine}
 use Rattle.monitor.proofs.state.trackers_fine.Goals as goal
-
-pub returns-then-not-tracker_fine : goal.returns-then-not-tracker_fine
-returns-then-not-tracker_fine c =
-    let t = c.args.trackers in
-    let n : length t ≡ 16 = search rules in
-    every_not tracker_fine t c.loop-i.i c.loop-i.invariant.1 no_tracker (omega arith) (sym c.tracker_fine.ensures ∙ c.if-not-tracker_fine.true)
-
-pub loop-i-preserved : goal.loop-i-preserved
-loop-i-preserved c =
-    let t = c.args.trackers in
-    let n : length t ≡ 16 = search rules in
-    (omega arith, every_next tracker_fine t c.loop-i.i c.loop-i.invariant.1 no_tracker (omega arith) (sym c.tracker_fine.ensures ∙ c.if-not-tracker_fine.false))
 
 pub returns : goal.returns
 returns c =
-    let t = c.args.trackers in
-    let n : length t ≡ 16 = search rules in every_done tracker_fine t c.loop-i.i c.loop-i.invariant.1 (omega arith)
+    all_from_yields_List tracker_fine _ _ _ c.all.ensures.ran (YieldsList-from_slice c.args.trackers.now cc) (λ x b q k. search (rules, tests))
+    ∙ list_all_every tracker_fine c.args.trackers.now

@@ -1,24 +1,12 @@
-use mathlib.Core.Path.{◌≡◌, sym, ◌∙◌}
-use native.Mathlib.Omega.{arith}
-use borrow.Author.Rules.{rules}
-use lib.ListN.{length}
-use Rattle.laws.proofs.Every.{every_not, every_next, every_done}
-use Rattle.tables.specs.Windows.{window_fine, no_window}
+-- `state::windows_fine` meets its contract: the chain's word is `every`. Assumes nothing.
+use Rattle.std.proofs.Common.{◌∙◌, rules, tests}
+use Rattle.std.proofs.lemmas.Iterator.{YieldsList-from_slice}
+use Rattle.std.proofs.lemmas.Iterator.Search.{all_from_yields_List}
+use Rattle.laws.proofs.Every.{list_all_every}
+use Rattle.tables.specs.Windows.{window_fine}
 use Rattle.monitor.proofs.state.windows_fine.Goals as goal
-
-pub returns-then-not-window_fine : goal.returns-then-not-window_fine
-returns-then-not-window_fine c =
-    let t = c.args.clients in
-    let n : length t ≡ 16 = search rules in
-    every_not window_fine t c.loop-i.i c.loop-i.invariant.1 no_window (omega arith) (sym c.window_fine.ensures ∙ c.if-not-window_fine.true)
-
-pub loop-i-preserved : goal.loop-i-preserved
-loop-i-preserved c =
-    let t = c.args.clients in
-    let n : length t ≡ 16 = search rules in
-    (omega arith, every_next window_fine t c.loop-i.i c.loop-i.invariant.1 no_window (omega arith) (sym c.window_fine.ensures ∙ c.if-not-window_fine.false))
 
 pub returns : goal.returns
 returns c =
-    let t = c.args.clients in
-    let n : length t ≡ 16 = search rules in every_done window_fine t c.loop-i.i c.loop-i.invariant.1 (omega arith)
+    all_from_yields_List window_fine _ _ _ c.all.ensures.ran (YieldsList-from_slice c.args.clients.now cc) (λ x b q k. search (rules, tests))
+    ∙ list_all_every window_fine c.args.clients.now

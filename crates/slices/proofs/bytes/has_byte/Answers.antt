@@ -1,13 +1,10 @@
-use mathlib.Core.Path.{sym, ◌∙◌}
-use native.Mathlib.Omega.{arith}
-use Rattle.slices.proofs.bytes.WalkLaws.{has_here, has_on, has_end}
+use Rattle.std.proofs.Common.{rules, tests, sym, ◌∙◌, ◌==◌}
+use Rattle.std.proofs.lemmas.Iterator.Search.{any_from_yields_List}
+use Rattle.std.proofs.lemmas.Iterator.{YieldsList-from_slice}
+use Rattle.slices.proofs.bytes.StdLaws.{has_any}
 use Rattle.slices.proofs.bytes.has_byte.Goals as goal
 
-pub returns-then-s-i : goal.returns-then-s-i
-returns-then-s-i c = sym (sym c.loop-i.invariant.1 ∙ has_here _ _ c.loop-i-test.true c.if-s-i.true)
-
-pub loop-i-preserved : goal.loop-i-preserved
-loop-i-preserved c = (omega arith, sym (has_on _ _ c.loop-i-test.true c.if-s-i.false) ∙ c.loop-i.invariant.1)
-
 pub returns : goal.returns
-returns c = sym (sym c.loop-i.invariant.1 ∙ has_end _ _ c.loop-i-test.false)
+returns c =
+    any_from_yields_List (λ b. b == c.args.c) _ _ c.any.result c.any.ensures.ran (YieldsList-from_slice c.args.s.now (cc)) (λ x b q k. search (rules, tests))
+    ∙ sym (has_any _ _)

@@ -1,38 +1,13 @@
-use borrow.Author.Rules.{rules}
-use mathlib.Core.Path.{◌≡◌}
-use native.Mathlib.Omega.{arith}
-use lib.ListN.{length, get_or}
-use Rattle.tables.specs.Buckets.{no_bucket, removed_bucket}
-use Rattle.tables.proofs.identity.AgreeLaws.{not_removed, removed_prefix}
-use Rattle.tables.proofs.ScanLaws.{find_here, find_next, find_done}
+use Rattle.std.proofs.Common.{rules, tests, ◌&&◌}
+use Rattle.std.proofs.lemmas.Iterator.{YieldsList-from_slice}
+use Rattle.std.proofs.lemmas.Iterator.Search.{position_from_yields_List}
+use Rattle.tables.specs.Identity.{is_removed}
+use Rattle.tables.specs.Buckets.{removed_bucket}
+use Rattle.tables.proofs.ScanLaws.{place_found}
 use Rattle.tables.proofs.buckets.removed_bucket.Goals as goal
-
-pub returns-then-prefixes_agree : goal.returns-then-prefixes_agree
-unfolding removed_bucket
-returns-then-prefixes_agree c =
-    let n : length c.args.buckets ≡ 32 = search rules in
-    let b = get_or c.args.buckets c.loop-i.i no_bucket in
-    let told = removed_prefix c.args.id b.id b.active c.numbers_agree.ensures c.if-numbers_agree.true c.prefixes_agree.ensures c.if-prefixes_agree.true in
-    find_here _ _ no_bucket (omega arith) c.loop-i.invariant.1 told
-
-pub loop-i-preserved-else-prefixes_agree : goal.loop-i-preserved-else-prefixes_agree
-unfolding removed_bucket
-loop-i-preserved-else-prefixes_agree c =
-    let n : length c.args.buckets ≡ 32 = search rules in
-    let b = get_or c.args.buckets c.loop-i.i no_bucket in
-    let told = removed_prefix c.args.id b.id b.active c.numbers_agree.ensures c.if-numbers_agree.true c.prefixes_agree.ensures c.if-prefixes_agree.false in
-    (omega arith, find_next _ _ no_bucket (omega arith) c.loop-i.invariant.1 told)
-
-pub loop-i-preserved : goal.loop-i-preserved
-unfolding removed_bucket
-loop-i-preserved c =
-    let n : length c.args.buckets ≡ 32 = search rules in
-    let b = get_or c.args.buckets c.loop-i.i no_bucket in
-    let told = not_removed c.args.id b.id b.active c.numbers_agree.ensures c.if-numbers_agree.false in
-    (omega arith, find_next _ _ no_bucket (omega arith) c.loop-i.invariant.1 told)
 
 pub returns : goal.returns
 unfolding removed_bucket
 returns c =
-    let n : length c.args.buckets ≡ 32 = search rules in
-    find_done _ _ (omega arith) (omega arith) c.loop-i.invariant.1
+    place_found (λ r. r.active && is_removed c.args.id.now r.id) c.args.buckets.now
+    (position_from_yields_List _ _ _ _ c.position.ensures.ran (YieldsList-from_slice c.args.buckets.now cc) (λ x b q k. search (rules, tests))) c.told-buckets

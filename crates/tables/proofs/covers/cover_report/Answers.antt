@@ -1,25 +1,23 @@
-use mathlib.Core.Path.{◌≡◌}
-use native.Mathlib.Omega.{arith}
-use borrow.Author.Rules.{rules}
-use lib.ListN.{length}
+use Rattle.std.proofs.Common.{◌<◌, ◌≤◌, arith, length-take}
+use lib.Seq.{get_or-take}
+use Rattle.tables.specs.Rules.{no_rule}
 use Rattle.tables.proofs.covers.CoverLaws.{report_start, report_on, report_end}
 use Rattle.tables.proofs.covers.cover_report.Goals as goal
 
 pub loop-at-init : goal.loop-at-init
-loop-at-init c =
-    let a = c.args in
-    let full : length a.rules ≡ 32 = search rules in
-    (omega arith, report_start a.rules a.count full)
+loop-at-init c = report_start c.args.rules.now c.args.count c.told-rules
 
 pub loop-at-preserved : goal.loop-at-preserved
 loop-at-preserved c =
-    let l = c.loop-at in
-    let a = c.args in
-    let full : length a.rules ≡ 32 = search rules in
-    (omega arith, report_on a.rules a.count full _ c.places-n.ensures l.invariant.1 c.loop-at-test.true c.first_cover.ensures)
+    let rules = c.args.rules.now in
+    let n = c.places.result in
+    let t : c.loop-at.at < n = omega (arith, c.told-rules, c.places.ensures, length-take n rules, c.loop-at-test.true) in
+    let e = rw (get_or-take n rules c.loop-at.at no_rule t) at c.first_cover.ensures in
+    report_on rules c.args.count c.told-rules _ c.places.ensures c.loop-at.invariant t e
 
 pub returns : goal.returns
 returns c =
-    let a = c.args in
-    let full : length a.rules ≡ 32 = search rules in
-    report_end a.rules a.count full _ c.places-n.ensures c.loop-at.invariant.1 c.loop-at-test.false
+    let rules = c.args.rules.now in
+    let n = c.places.result in
+    let t : n ≤ c.loop-at.at = omega (arith, c.told-rules, c.places.ensures, length-take n rules, c.loop-at-test.false) in
+    report_end rules c.args.count c.told-rules _ c.places.ensures c.loop-at.invariant t

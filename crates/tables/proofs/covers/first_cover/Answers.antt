@@ -1,31 +1,16 @@
-use mathlib.Core.Path.{◌≡◌, sym, ◌∙◌}
-use native.Mathlib.Omega.{arith}
-use borrow.Author.Rules.{rules}
-use lib.ListN.{length, get_or}
+use Rattle.std.proofs.Common.{rules, tests}
+use Rattle.std.proofs.lemmas.Iterator.{YieldsList-from_slice}
+use Rattle.std.proofs.lemmas.Iterator.Search.{position_from_yields_List}
 use Rattle.tables.specs.Covers.{rule_covers}
-use Rattle.tables.specs.Rules.{no_rule}
-use Rattle.tables.proofs.covers.CoverLaws.{number_here, number_next, number_none}
+use Rattle.tables.proofs.covers.CoverLaws.{number_some, number_none}
 use Rattle.tables.proofs.covers.first_cover.Goals as goal
 
-pub returns-then-rule_covers : goal.returns-then-rule_covers
-returns-then-rule_covers c =
-    let l = c.loop-i in
-    let a = c.args in
-    let full : length a.rules ≡ 32 = search rules in
-    number_here (rule_covers a.matching (get_or a.rules a.at no_rule)) a.rules a.at _ (omega arith) l.invariant.1 c.loop-i-test.true (sym c.rule_covers.ensures ∙ c.if-rule_covers.true)
+pub returns-in-Some : goal.returns-in-Some
+returns-in-Some c =
+    number_some (rule_covers c.args.matching c.args.later.now) c.args.earlier.now
+    (position_from_yields_List _ _ _ _ c.position.ensures.ran (YieldsList-from_slice c.args.earlier.now cc) (λ x b q k. search (rules, tests))) c.in-Some.is
 
-pub loop-i-preserved : goal.loop-i-preserved
-loop-i-preserved c =
-    let l = c.loop-i in
-    let a = c.args in
-    let full : length a.rules ≡ 32 = search rules in (
-      omega arith,
-      number_next (rule_covers a.matching (get_or a.rules a.at no_rule)) a.rules a.at _ (omega arith) l.invariant.1 c.loop-i-test.true (sym c.rule_covers.ensures ∙ c.if-rule_covers.false),
-    )
-
-pub returns : goal.returns
-returns c =
-    let l = c.loop-i in
-    let a = c.args in
-    let full : length a.rules ≡ 32 = search rules in
-    number_none (rule_covers a.matching (get_or a.rules a.at no_rule)) a.rules a.at _ (omega arith) l.invariant.1 l.invariant.0 c.loop-i-test.false
+pub returns-in-None : goal.returns-in-None
+returns-in-None c =
+    number_none (rule_covers c.args.matching c.args.later.now) c.args.earlier.now
+    (position_from_yields_List _ _ _ _ c.position.ensures.ran (YieldsList-from_slice c.args.earlier.now cc) (λ x b q k. search (rules, tests))) c.in-None.is

@@ -1,32 +1,19 @@
-use mathlib.Core.Path.{◌≡◌, sym, ◌∙◌}
-use native.Mathlib.Omega.{arith}
-use borrow.Author.Rules.{rules}
-use lib.ListN.{length}
+use Rattle.std.proofs.Common.{arith, rules, tests, ◌&&◌, ◌≡◌, min, take, length, length-take}
+use Rattle.std.proofs.lemmas.Iterator.{YieldsList-from_slice}
+use Rattle.std.proofs.lemmas.Iterator.Search.{position_from_yields_List}
+use Rattle.laws.proofs.Lists.{take_like}
 use Rattle.slices.specs.Bytes.{same}
-use Rattle.tables.specs.Rules.{equal_rule}
-use Rattle.tables.proofs.rules.RuleLaws.{seek_here, seek_next, seek_done}
+use Rattle.tables.specs.Rules.{pattern_of, equal_rule}
+use Rattle.tables.proofs.ScanLaws.{place_found}
 use Rattle.tables.proofs.rules.equal_rule.Goals as goal
-
-pub returns-then-has_pattern : goal.returns-then-has_pattern
-unfolding equal_rule
-returns-then-has_pattern c =
-    let a = c.args in
-    let full : length a.rules ≡ 32 = search rules in
-    seek_here (λ p. same p a.pattern.now) a.rules a.count _ full c.places-n.ensures c.loop-i.invariant.1 c.loop-i-test.true
-    (sym c.has_pattern.ensures ∙ c.if-has_pattern.true)
-
-pub loop-i-preserved : goal.loop-i-preserved
-loop-i-preserved c =
-    let a = c.args in
-    let full : length a.rules ≡ 32 = search rules in (
-      omega arith,
-      seek_next (λ p. same p a.pattern.now) a.rules a.count _ full c.places-n.ensures c.loop-i.invariant.1 c.loop-i-test.true
-          (sym c.has_pattern.ensures ∙ c.if-has_pattern.false),
-    )
 
 pub returns : goal.returns
 unfolding equal_rule
 returns c =
-    let a = c.args in
-    let full : length a.rules ≡ 32 = search rules in
-    seek_done (λ p. same p a.pattern.now) a.rules a.count _ full c.places-n.ensures c.loop-i.invariant.1 c.loop-i.invariant.0 c.loop-i-test.false
+    let n = c.places.result in
+    let k = c.args.count in
+    let e : length (take n c.args.rules.now) ≡ min k 32 = omega (arith, c.told-rules, c.places.ensures, length-take n c.args.rules.now) in
+    let f =
+    place_found (λ r. r.active && same (pattern_of r) c.args.pattern.now) (take n c.args.rules.now)
+    (position_from_yields_List _ _ _ _ c.position.ensures.ran (YieldsList-from_slice (take n c.args.rules.now) cc) (λ x b q k. search (rules, tests))) e in
+    rw (take_like c.args.rules.now n k (omega (arith, c.told-rules, c.places.ensures))) at f

@@ -1,24 +1,23 @@
-use mathlib.Core.Path.{◌≡◌, sym, ◌∙◌}
-use native.Mathlib.Omega.{arith}
-use lib.ListN.{length}
-use borrow.Author.Rules.{rules}
-use Rattle.tables.proofs.standing.StandingLaws.{live_start, live_wins, live_stays, live_done}
+use Rattle.std.proofs.Common.{rules}
+use Rattle.tables.proofs.standing.StandingLaws.{live_start, live_wins, live_dead, live_younger, live_done}
+use Rattle.tables.proofs.standing.oldest_live.Goals.{else-buckets-at-via-then-buckets-at+else-then-time, else-buckets-at-via-else-buckets-at}
 use Rattle.tables.proofs.standing.oldest_live.Goals as goal
 
-pub loop-i-init : goal.loop-i-init
-loop-i-init c = let n : length c.args.buckets ≡ 32 = search rules in (live_start _ n _, omega arith)
+pub loop-at-init : goal.loop-at-init
+loop-at-init c = live_start c.args.buckets.now c.told-buckets
 
-pub loop-i-preserved-then-is_older : goal.loop-i-preserved-then-is_older
-loop-i-preserved-then-is_older c =
-    let n : length c.args.buckets ≡ 32 = search rules in
-    (live_wins _ n c.loop-i.i c.loop-i-test.true c.loop-i.invariant.1 c.loop-i.invariant.0 (sym c.is_older.ensures ∙ c.if-is_older.true), omega arith)
+pub loop-at-preserved-then-then-time : goal.loop-at-preserved-then-then-time
+loop-at-preserved-then-then-time c =
+    live_wins c.args.buckets.now c.told-buckets c.loop-at.at c.loop-at-test.true c.loop-at.auto.at c.loop-at.invariant c.if-buckets-at.true c.if-then-time.true
 
-pub loop-i-preserved : goal.loop-i-preserved
-loop-i-preserved c =
-    let n : length c.args.buckets ≡ 32 = search rules in
-    (live_stays _ n c.loop-i.i c.loop-i-test.true c.loop-i.invariant.1 c.loop-i.invariant.0 (sym c.is_older.ensures ∙ c.if-is_older.false), omega arith)
+pub loop-at-preserved : goal.loop-at-preserved
+loop-at-preserved c =
+    elim c.else-buckets-at.branch [
+      | else-buckets-at-via-then-buckets-at+else-then-time w ↦
+          live_younger c.args.buckets.now c.told-buckets c.loop-at.at c.loop-at-test.true c.loop-at.auto.at c.loop-at.invariant w.if-buckets-at.true w.if-then-time.false (search rules)
+      | else-buckets-at-via-else-buckets-at w ↦
+          live_dead c.args.buckets.now c.told-buckets c.loop-at.at c.loop-at-test.true c.loop-at.auto.at c.loop-at.invariant w.if-buckets-at.false
+    ]
 
 pub returns : goal.returns
-returns c =
-    let n : length c.args.buckets ≡ 32 = search rules in
-    live_done _ n c.loop-i.invariant.0 c.loop-i-test.false
+returns c = live_done c.args.buckets.now c.told-buckets c.loop-at.invariant c.loop-at-test.false
