@@ -9,7 +9,7 @@ use topics::patterns::{PatternRefusal, check_pattern};
 
 // A name that only the later pattern matches, zeros after it. The length is 0 where there is none, and where `number` refuses a pattern.
 #[repr(C)]
-#[derive(Clone, Copy)]
+#[derive(Clone, Copy, Debug, PartialEq, Eq)]
 pub struct PairWitness {
     pub number: u32,
     pub length: usize,

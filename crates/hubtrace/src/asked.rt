@@ -8,7 +8,7 @@ use streams::words::{is_there, word_at};
 use topics::matching::Matching;
 
 // A matcher; a matcher, and where the limit stands; or a word that the program does not know.
-#[derive(Clone, Copy)]
+#[derive(Clone, Copy, Debug, PartialEq, Eq)]
 pub enum Asked {
     For(Matching),
     Standing(Matching),
@@ -44,8 +44,7 @@ pub fn too(asked: Asked, word: &[u8]) -> Asked
 {
     match asked {
         Asked::For(matching) => beside(matching, word),
-        Asked::Standing(_) => Asked::Unknown,
-        Asked::Unknown => Asked::Unknown,
+        Asked::Standing(_) | Asked::Unknown => Asked::Unknown,
     }
 }
 

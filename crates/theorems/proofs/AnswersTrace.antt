@@ -32,6 +32,8 @@ use Rattle.trace.specs.contracts.standing.write_standing as standing-write_stand
 use Rattle.trace.proofs.standing.write_standing.Reads as standing-write_standing-reads
 use Rattle.theorems.specs.One.{Any, One, OneLeft}
 use Rattle.theorems.proofs.AnswersLines.{wrote_once}
+use Rattle.trace.proofs.record.RecordLaws.{written_once}
+use Rattle.trace.proofs.run.LoadLaws.{loaded_once}
 
 pub one-groups-read_opening : One groups-read_opening.ended groups-read_opening-reads.Post
 one-groups-read_opening κs a x y e f p q = p.0 ∙ sym q.0
@@ -70,13 +72,13 @@ pub any-record-closing_len : Any record-closing_len.ended record-closing_len-rea
 any-record-closing_len κs a = tt
 
 pub one-record-write_record : OneLeft record-write_record.ended record-write_record-reads.Post (λ κs e. e.0.now)
-one-record-write_record κs a x y e f p q = (p.0 ∙ sym q.0, p.1 ∙ sym q.1)
+one-record-write_record κs a x y e f p q = (written_once _ _ (p.0 ∙ sym q.0), p.1 ∙ sym q.1)
 
 pub any-record-write_record : Any record-write_record.ended record-write_record-reads.Asked
 any-record-write_record κs a = tt
 
-pub one-run-load : One run-load.ended run-load-reads.Post
-one-run-load κs a x y e f p q = p ∙ sym q
+pub one-run-load : OneLeft run-load.ended run-load-reads.Post (λ κs e. e.1.1.0.now)
+one-run-load κs a x y e f p q = loaded_once _ _ _ _ (p ∙ sym q)
 
 pub any-run-load : Any run-load.ended run-load-reads.Asked
 any-run-load κs a = tt

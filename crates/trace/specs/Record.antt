@@ -1,13 +1,14 @@
 -- Document 01, "The trace": one message's lines, "ordinal, verdict, alert count, then each alert", the closing lines, and writing a record as a call of its own.
 -- Assumes nothing.
-use Rattle.std.specs.Prelude.{cond, List, [], ◌∷◌, ◌++◌, ℕ, eqb, leb, length, take}
+use Rattle.std.specs.Prelude.{cond, List, [], ◌∷◌, ◌++◌, ℕ, eqb, leb, length, take, Result, Ok, Err}
 use Rattle.std.proofs.lemmas.List.Edits.{sets}
 use Rattle.slices.specs.Bytes.{bytes}
 use Rattle.lines.specs.Line.{number_line, flag_line, hex_line}
 use Rattle.monitor.specs.Alerts.{severity_number}
 use Rattle.monitor.specs.declared.alerts.MqttInspectResult.{MqttInspectResult}
 use Rattle.monitor.specs.declared.alerts.SecurityAlert.{SecurityAlert}
-use Rattle.trace.specs.declared.record.Written.{Written}
+use Rattle.trace.specs.declared.record.RecordRefusal.{RecordRefusal}
+use Rattle.trace.specs.declared.record.RecordRefusal.TheVariants.{BadState, TooShort}
 
 -- an alert's four lines
 unfoldable pub alert_text : SecurityAlert → List ℕ
@@ -34,6 +35,21 @@ closing_text number line inspected total =
 -- 10 for an alert count over 4, then 28 where the buffer is shorter than the record; 0 is none
 unfoldable pub record_refusal : ℕ → ℕ → MqttInspectResult → ℕ
 record_refusal room n r = cond (leb r.alert_count 4) (cond (leb (length (record_text n r)) room) 0 28) 10
+
+-- how writing a record ends: 0 and how many bytes stand at the buffer's beginning; or 10 or 28 with nothing written
+pub record Written : Type 0 where
+  pub number : ℕ
+  pub length : ℕ
+
+-- the number of a refusal
+abbrev pub record_number : RecordRefusal → ℕ
+record_number BadState = 10
+record_number TooShort = 28
+
+-- an answer as number and length
+abbrev pub written_by : Result ℕ RecordRefusal → Written
+written_by (Ok n) = record { number = 0; length = n }
+written_by (Err e) = record { number = record_number e; length = 0 }
 
 -- what writing a record answers
 unfoldable pub record_written : ℕ → ℕ → MqttInspectResult → Written

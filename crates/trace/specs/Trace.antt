@@ -1,10 +1,12 @@
 -- Document 01, "The trace": a whole trace. It is an opening with its rules, a list of messages, and an end; the text that goes out is a fold over that list. The text says nothing of
 -- the matcher: whoever asks for a trace chooses it (request C-15), and what is read is the same under either (specs/AsRun.antt).
 -- Assumes nothing.
-use Rattle.std.specs.Prelude.{Bool, cond, List, [], ◌∷◌, ◌++◌, ℕ, zero, suc, ◌+◌, eqb, leb, length}
+use Rattle.std.specs.Prelude.{Bool, cond, List, [], ◌∷◌, ◌++◌, ℕ, zero, suc, ◌+◌, eqb, leb, length, Result, Ok, Err}
 use Rattle.std.proofs.lemmas.List.Edits.{sets}
 use Rattle.topics.specs.declared.matching.Matching.{Matching}
+use Rattle.tables.specs.declared.rules.TopicAction.{TopicAction}
 use Rattle.tables.specs.declared.rules.TopicAction.TheVariants.{Allow}
+use Rattle.tables.specs.declared.rules.TopicRule.{TopicRule}
 use Rattle.monitor.specs.Calls.{fresh, add_rule}
 use Rattle.monitor.specs.Inspect.{applied, result_of}
 use Rattle.monitor.specs.Plan.{plan_of}
@@ -17,7 +19,8 @@ use Rattle.trace.specs.Groups.{opening_of, message_at, topic_in, payload_in}
 use Rattle.trace.specs.Record.{record_text, closing_text}
 use Rattle.trace.specs.declared.groups.OpeningLines.{OpeningLines}
 use Rattle.rules_text.specs.declared.read.RuleLines.{RuleLines}
-use Rattle.trace.specs.declared.run.LoadedRules.{LoadedRules}
+use Rattle.trace.specs.declared.reading.Place.{Place}
+use Rattle.trace.specs.declared.reading.Stop.{Stop}
 use Rattle.trace.specs.declared.run.TraceEnd.{TraceEnd}
 
 -- the messages of a trace, and how it ended: number and line
@@ -36,6 +39,11 @@ pub record Loaded : Type 0 where
 -- the rules were not loaded
 abbrev pub not_loaded : ℕ → ℕ → ℕ → MqttMonitor → Loaded
 not_loaded number line next m = record { number = number; line = line; next = next; monitor = m }
+
+-- what is loaded, by an answer and the monitor that it left
+abbrev pub loaded_as : Result Place Stop → MqttMonitor → Loaded
+loaded_as (Ok place) m = record { number = 0; line = place.line; next = place.next; monitor = m }
+loaded_as (Err stop) m = not_loaded stop.number stop.line stop.next m
 
 -- a rule that was read after `line` lines, added: a refusal stands at its `rate=` line
 unfoldable pub rule_into : MqttMonitor → List ℕ → ℕ → RuleLines → Loaded
@@ -65,7 +73,16 @@ loaded_from matching s o =
 unfoldable pub loaded : Matching → List ℕ → Loaded
 loaded matching s = cond (leb (length s) 65536) (loaded_from matching s (opening_of s)) (not_loaded 27 0 0 (fresh matching Allow))
 
--- the monitor's default and rules, which say all of it: the rest is as in a fresh one (proofs/run/LoadLaws.antt, `loaded-monitor`)
+-- what an opening and its rules gave, but for the matcher
+pub record LoadedRules : Type 0 where
+  pub number : ℕ
+  pub line : ℕ
+  pub next : ℕ
+  pub default_action : TopicAction
+  pub rule_count : ℕ
+  pub rules : List TopicRule
+
+-- the monitor's default and rules, which say all of it: the rest is as in a fresh one
 abbrev pub rules_of : Loaded → LoadedRules
 rules_of l =
     record {

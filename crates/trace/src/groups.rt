@@ -1,5 +1,5 @@
 // The groups of lines that a trace is made of beside its rules: the opening's two, a message's seven (document 01, "The trace"). A rule's four are read by `rules_text`.
-ghost use Rattle.std.specs.Prelude.{◌≡◌};
+ghost use Rattle.std.specs.Prelude.{◌≡◌, ◌≤◌};
 ghost use Rattle.trace.specs.Groups.{opening_stopped, opening_of, OpeningIn, message_stopped, message_at, topic_kept, payload_kept, MessageIn};
 
 use lines::read::{Field, hex_field, number_field, word_field};
@@ -7,7 +7,7 @@ use monitor::message::{MqttMessage, MqttPacketType, PAYLOAD_MAX, TOPIC_MAX, type
 use tables::rules::{MqttQoS, TopicAction, action_at, qos_at};
 
 // What an opening's two lines gave. Refused: the number, and which line of the group it is, the first being 0; `next` is the place after the last line read.
-#[derive(Drop)]
+#[derive(Clone, Copy, Debug, PartialEq, Eq)]
 pub struct OpeningLines {
     pub number: u32,
     pub line: u32,
@@ -17,7 +17,7 @@ pub struct OpeningLines {
 }
 
 // What a message's seven lines gave; the hex of topic and payload stands at its from..to of the text, the bytes in lent buffers.
-#[derive(Drop)]
+#[derive(Clone, Copy, Debug, PartialEq, Eq)]
 pub struct MessageLines {
     pub number: u32,
     pub line: u32,
@@ -27,6 +27,26 @@ pub struct MessageLines {
     pub topic_to: usize,
     pub payload_from: usize,
     pub payload_to: usize,
+}
+
+impl MessageLines {
+    ghost use Rattle.std.specs.Prelude.{take};
+
+    // The message's topic, which its lines left at the beginning of a buffer.
+    pub(crate) fn topic<'a>(&self, buffer: &'a [u8; TOPIC_MAX]) -> &'a [u8]
+        requires { self.now.msg.topic_len ≤ 128 }
+        ensures { result.now ≡ take self.now.msg.topic_len buffer.now }
+    {
+        &buffer[..usize::from(self.msg.topic_len)]
+    }
+
+    // Its payload, in the same way.
+    pub(crate) fn payload<'a>(&self, buffer: &'a [u8; PAYLOAD_MAX]) -> &'a [u8]
+        requires { self.now.msg.payload_inspectable_len ≤ 256 }
+        ensures { result.now ≡ take self.now.msg.payload_inspectable_len buffer.now }
+    {
+        &buffer[..usize::from(self.msg.payload_inspectable_len)]
+    }
 }
 
 // An opening that stopped at a line.
@@ -55,12 +75,11 @@ pub fn read_opening(text: &[u8]) -> OpeningLines
     if rules.number != 0 {
         return opening_stopped(rules, 1);
     }
-    let default_action = action_at(default.value);
     OpeningLines {
         number: 0,
         line: 1,
         next: rules.next,
-        default_action,
+        default_action: action_at(default.value),
         rules: rules.value,
     }
 }
@@ -129,16 +148,14 @@ pub fn read_message(
     if data.number != 0 {
         return message_stopped(data, 6);
     }
-    let packet_type = type_at(kind.value);
-    let level = qos_at(qos.value);
     MessageLines {
         number: 0,
         line: 6,
         next: data.next,
         msg: MqttMessage {
-            packet_type,
+            packet_type: type_at(kind.value),
             topic_len: name.value as u8,
-            qos: level,
+            qos: qos_at(qos.value),
             payload_len: size.value as u16,
             payload_inspectable_len: data.value as u16,
             timestamp_us: time.value,

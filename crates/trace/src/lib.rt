@@ -3,6 +3,7 @@
 #![tactic(auto)]
 
 pub mod groups;
+pub mod reading;
 pub mod record;
 pub mod run;
 pub mod seen;

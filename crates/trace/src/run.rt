@@ -1,22 +1,19 @@
 // A whole trace: text in, text out (document 01, "The trace"). The rules are loaded into a table; then one loop owns the monitor that has them and takes message after
 // message.
 ghost use Rattle.std.specs.Prelude.{true, ◌&&◌, ◌≡◌, ◌+◌, ◌*◌, ◌≤◌, leb, length};
+ghost use Rattle.monitor.specs.State.{well_formed};
+ghost use Rattle.rules_text.specs.RuleGroup.{rule_at};
 ghost use Rattle.trace.specs.Record.{record_text, closing_text};
-ghost use Rattle.trace.specs.Trace.{loaded, rules_of, trace_text, enough, put_if, whole_end, trace_end, trace_kept};
+ghost use Rattle.trace.specs.Trace.{loaded_as, rule_into, loaded, trace_text, enough, put_if, whole_end, trace_end, trace_kept};
 
 use crate::groups::{read_message, read_opening};
-use crate::record::{closing_len, put_closing, put_record, record_len};
-use monitor::alerts::{MqttInspectResult, count_on};
-use monitor::calls::fresh;
-use monitor::gate::gate_for;
+use crate::reading::{Place, Stop};
+use crate::record::{Closing, closing_len, put_closing, put_record, record_len};
+use monitor::alerts::MqttInspectResult;
 use monitor::message::{PAYLOAD_MAX, TOPIC_MAX};
-use monitor::plan::{fed_for, id_for, plan_from, seen_for, spent_for};
-use monitor::state::{MqttMonitor, free_rules};
+use monitor::state::MqttMonitor;
 use rules_text::read::read_rule;
-use tables::buckets::BUCKETS;
-use tables::rules::{RULES, TopicAction, TopicRule, plan_rule};
-use tables::trackers::TRACKERS;
-use tables::windows::WINDOWS;
+use tables::rules::{TopicAction, plan_rule};
 use topics::matching::Matching;
 
 // How long a text may be.
@@ -24,22 +21,11 @@ const TEXT_MAX: usize = 65536;
 
 // How a trace ended: 0 is whole, else the number that refused it, with the last or refused line and how many bytes were written; 28 writes nothing.
 #[repr(C)]
-#[derive(Drop)]
+#[derive(Clone, Copy, Debug, PartialEq, Eq)]
 pub struct TraceEnd {
     pub number: u32,
     pub line: u64,
     pub length: usize,
-}
-
-// What an opening and its rules gave: a monitor's default and its rules, and where a number refused them its line; `next` is the place after the last line read.
-#[derive(Drop)]
-pub struct LoadedRules {
-    pub number: u32,
-    pub line: u64,
-    pub next: usize,
-    pub default_action: TopicAction,
-    pub rule_count: u16,
-    pub rules: [TopicRule; RULES],
 }
 
 // A buffer for a pattern or a topic.
@@ -56,88 +42,77 @@ pub(crate) fn buffer_256() -> [u8; PAYLOAD_MAX]
     [0; PAYLOAD_MAX]
 }
 
-// The opening and its rules. 27 is tested first; a rule that is refused gives its number at its `rate=` line, and rules before it stay loaded. The table of rules is
-// the only part of a monitor that is owned here, and each rule is stored in place. Which matcher the monitor takes changes nothing of it.
-pub fn load(text: &[u8]) -> LoadedRules
-    ensures { result ≡ rules_of (loaded Matching.Port text.now) }
+// The rule at a place of the text, into a monitor; the place after it. A rule that is refused changes nothing: its number stands at its line, or at its last where the table does not take it.
+fn load_rule(text: &[u8], start: Place, m: &mut MqttMonitor) -> Result<Place, Stop>
+    requires formed { well_formed m.old ≡ true }
+    requires few { start.line ≤ 130 }
+    ensures { loaded_as result m.new ≡ rule_into m.old text.now start.line (rule_at text.now start.next) }
 {
-    let mut rules = free_rules();
-    let mut rule_count = 0;
-    if TEXT_MAX < text.len() {
-        return LoadedRules {
+    let mut pattern = buffer_128();
+    let rule = read_rule(text, start.next, &mut pattern);
+    if rule.number != 0 {
+        return Err(Stop {
+            number: rule.number,
+            line: start.line + 1 + u64::from(rule.line),
+            next: rule.next,
+        });
+    }
+    let n = (rule.pattern_to - rule.pattern_from) / 2;
+    let planned = plan_rule(
+        &m.rules,
+        m.rule_count,
+        &pattern[..n],
+        rule.action,
+        rule.qos_policy,
+        rule.rate,
+    );
+    let line = start.line + 4;
+    match planned {
+        Ok(placement) => {
+            m.rules[placement.at] = placement.rule;
+            m.rule_count = placement.count;
+            Ok(Place {
+                next: rule.next,
+                line,
+            })
+        }
+        Err(refusal) => Err(Stop {
+            number: refusal.number(),
+            line,
+            next: rule.next,
+        }),
+    }
+}
+
+/// The opening and its rules: a fresh monitor that has them, and where its messages begin. 27 is tested first; where a rule is refused the rules before it stay.
+pub fn load(text: &[u8], matching: Matching, m: &mut MqttMonitor) -> Result<Place, Stop>
+    ensures { loaded_as result m.new ≡ loaded matching text.now }
+{
+    *m = MqttMonitor::fresh(matching, TopicAction::Allow);
+    if text.len() > TEXT_MAX {
+        return Err(Stop {
             number: 27,
             line: 0,
             next: 0,
-            default_action: TopicAction::Allow,
-            rule_count,
-            rules,
-        };
+        });
     }
     let opening = read_opening(text);
-    let default_action = opening.default_action;
-    let mut at = opening.next;
+    m.default_action = opening.default_action;
     if opening.number != 0 {
-        return LoadedRules {
+        return Err(Stop {
             number: opening.number,
-            line: 1 + opening.line as u64,
-            next: at,
-            default_action,
-            rule_count,
-            rules,
-        };
+            line: 1 + u64::from(opening.line),
+            next: opening.next,
+        });
     }
-    let mut pattern = buffer_128();
-    let mut line: u64 = 2;
-    let mut left = opening.rules;
-    while 0 < left {
-        let rule = read_rule(text, at, &mut pattern);
-        at = rule.next;
-        if rule.number != 0 {
-            return LoadedRules {
-                number: rule.number,
-                line: line + 1 + rule.line as u64,
-                next: at,
-                default_action,
-                rule_count,
-                rules,
-            };
-        }
-        let n = (rule.pattern_to - rule.pattern_from) / 2;
-        let action = rule.action;
-        let qos_policy = rule.qos_policy;
-        let plan = plan_rule(
-            rules,
-            rule_count,
-            &pattern[..n],
-            action,
-            qos_policy,
-            rule.rate,
-        );
-        line += 4;
-        left -= 1;
-        if plan.number != 0 {
-            return LoadedRules {
-                number: plan.number,
-                line,
-                next: at,
-                default_action,
-                rule_count,
-                rules,
-            };
-        }
-        let place = plan.at;
-        let taken = plan.rule;
-        rules[place] = taken;
-        rule_count = plan.count;
+    let mut place = Place {
+        next: opening.next,
+        line: 2,
+    };
+    for _rule in 0..opening.rules {
+        place = load_rule(text, place, m)?;
     }
-    LoadedRules {
-        number: 0,
-        line,
-        next: at,
-        default_action,
-        rule_count,
-        rules,
-    }
+    Ok(place)
 }
 
 // A message's lines at a place of the buffer, or only their length.
@@ -145,13 +120,13 @@ fn pass_record(
     out: &mut [u8],
     at: usize,
     n: u64,
-    inspected: MqttInspectResult,
+    inspected: &MqttInspectResult,
     write: bool,
 ) -> usize
     requires small { at ≤ enough }
-    requires room { write ≡ true → at + length (record_text n inspected) ≤ length out.old }
-    ensures next { result ≡ at + length (record_text n inspected) }
-    ensures bytes { out.new ≡ put_if write out.old at (record_text n inspected) }
+    requires room { write ≡ true → at + length (record_text n inspected.now) ≤ length out.old }
+    ensures next { result ≡ at + length (record_text n inspected.now) }
+    ensures bytes { out.new ≡ put_if write out.old at (record_text n inspected.now) }
 {
     if !write {
         return at + record_len(n, inspected);
@@ -160,60 +135,53 @@ fn pass_record(
 }
 
 // The closing lines at a place of the buffer, or only their length; and how the trace ended.
-fn pass_closing(
-    out: &mut [u8],
-    at: usize,
-    number: u32,
-    line: u64,
-    inspected: u64,
-    total: u64,
-    write: bool,
-) -> TraceEnd
+fn pass_closing(out: &mut [u8], at: usize, closing: &Closing, write: bool) -> TraceEnd
     requires small { at ≤ enough }
-    requires room { write ≡ true → at + length (closing_text number line inspected total) ≤ length out.old }
-    ensures next { result ≡ record { number = number; line = line; length = at + length (closing_text number line inspected total) } }
-    ensures bytes { out.new ≡ put_if write out.old at (closing_text number line inspected total) }
+    requires room { write ≡ true → at + length (closing_text closing.now.number closing.now.line closing.now.inspected closing.now.total) ≤ length out.old }
+    ensures next { result ≡ record { number = closing.now.number; line = closing.now.line; length = at + length (closing_text closing.now.number closing.now.line closing.now.inspected closing.now.total) } }
+    ensures bytes { out.new ≡ put_if write out.old at (closing_text closing.now.number closing.now.line closing.now.inspected closing.now.total) }
 {
+    let mut end = TraceEnd {
+        number: closing.number,
+        line: closing.line,
+        length: at,
+    };
     if !write {
-        return TraceEnd {
-            number,
-            line,
-            length: at + closing_len(number, line, inspected, total),
-        };
+        end.length += closing_len(closing);
+        return end;
     }
-    TraceEnd {
+    end.length = put_closing(out, at, closing);
+    end
+}
+
+// What the closing lines say of a monitor after its last message.
+fn closing_of(m: &MqttMonitor, number: u32, line: u64) -> Closing
+    ensures { result ≡ record { number = number; line = line; inspected = m.now.total_inspected; total = m.now.total_alerts } }
+{
+    Closing {
         number,
         line,
-        length: put_closing(out, at, number, line, inspected, total),
+        inspected: m.total_inspected,
+        total: m.total_alerts,
     }
 }
 
-// One pass over a trace, which writes its text from the buffer's beginning on, or only counts it. The loop owns the monitor: each table is asked by itself, as `plan_for` does, so that
-// none is copied but for its own search; what was decided is stored, and the message's lines go out.
+// One pass over a trace, which writes its text from the buffer's beginning on, or only counts it. The loop owns the monitor: of each message it makes the plan, does the stores, and lets the lines
+// go out.
 fn pass(text: &[u8], matching: Matching, out: &mut [u8], write: bool) -> TraceEnd
     requires { write ≡ true → length (trace_text matching text.now) ≤ length out.old }
     ensures end { result ≡ whole_end matching text.now }
     ensures bytes { out.new ≡ put_if write out.old 0 (trace_text matching text.now) }
 {
-    let start = load(text);
-    let default_action = start.default_action;
-    let rules = start.rules;
-    let mut m = fresh(matching, default_action);
-    m.rules = rules;
-    m.rule_count = start.rule_count;
+    let mut m = MqttMonitor::fresh(matching, TopicAction::Allow);
+    let start = match load(text, matching, &mut m) {
+        Ok(start) => start,
+        Err(stop) => {
+            return pass_closing(out, 0, &closing_of(&m, stop.number, stop.line), write);
+        }
+    };
     let mut at = start.next;
     let mut line = start.line;
-    if start.number != 0 {
-        return pass_closing(
-            out,
-            0,
-            start.number,
-            line,
-            m.total_inspected,
-            m.total_alerts,
-            write,
-        );
-    }
     let mut topic = buffer_128();
     let mut payload = buffer_256();
     let mut n: u64 = 1;
@@ -221,82 +189,17 @@ fn pass(text: &[u8], matching: Matching, out: &mut [u8], write: bool) -> TraceEn
     while at < text.len() {
         let group = read_message(text, at, &mut topic, &mut payload);
         if group.number != 0 {
-            return pass_closing(
-                out,
-                p,
-                group.number,
-                line + 1 + group.line as u64,
-                m.total_inspected,
-                m.total_alerts,
-                write,
-            );
+            let stopped = line + 1 + u64::from(group.line);
+            return pass_closing(out, p, &closing_of(&m, group.number, stopped), write);
         }
-        let msg = group.msg;
-        let topic_len = msg.topic_len as usize;
-        let payload_len = msg.payload_inspectable_len as usize;
-        let name = &topic[..topic_len];
-        let rules = m.rules;
-        let default_action = m.default_action;
-        let matching = m.matching;
-        let gate = gate_for(rules, m.rule_count, default_action, matching, msg, name);
-        let clients = m.connect_windows;
-        let seen = seen_for(
-            clients,
-            m.connect_storm_threshold,
-            m.connect_storm_window_us,
-            msg,
-            name,
-        );
-        let id = id_for(gate, name);
-        let buckets = m.rate_buckets;
-        let spent = spent_for(buckets, gate, id, msg.timestamp_us);
-        let trackers = m.ewma_trackers;
-        let fed = fed_for(trackers, gate, id, msg);
-        let plan = plan_from(
-            gate,
-            seen,
-            spent,
-            fed,
-            msg,
-            &payload[..payload_len],
-            m.next_alert_id,
-            m.total_alerts,
-        );
-        let inspected = count_on(m.total_inspected);
-        let seen = plan.seen;
-        let seen_at = seen.at;
-        if seen_at < WINDOWS {
-            let entry = seen.entry;
-            m.connect_windows[seen_at] = entry;
-        }
-        let spent = plan.spent;
-        let spent_at = spent.at;
-        if spent_at < BUCKETS {
-            let bucket = spent.bucket;
-            m.rate_buckets[spent_at] = bucket;
-        }
-        let fed = plan.fed;
-        let fed_at = fed.at;
-        if fed_at < TRACKERS {
-            let tracker = fed.tracker;
-            m.ewma_trackers[fed_at] = tracker;
-        }
-        let raised = plan.raised;
-        m.next_alert_id = raised.next_id;
-        m.total_inspected = inspected;
-        m.total_alerts = raised.total;
-        let alerts = raised.alerts;
-        let result = MqttInspectResult {
-            allowed: plan.allowed,
-            alert_count: raised.count,
-            alerts,
-        };
-        p = pass_record(out, p, n, result, write);
+        let plan = m.plan_for(&group.msg, group.topic(&topic), group.payload(&payload));
+        m.apply(&plan);
+        p = pass_record(out, p, n, &plan.result(), write);
         at = group.next;
         line += 7;
         n += 1;
     }
-    pass_closing(out, p, 0, line, m.total_inspected, m.total_alerts, write)
+    pass_closing(out, p, &closing_of(&m, 0, line), write)
 }
 
 // How a trace ends where there is room for all its lines, and how many bytes they take: the room that `run_trace_by` needs.

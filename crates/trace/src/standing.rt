@@ -1,22 +1,23 @@
 // Where the limit stands after a trace, as text (docs/STANDING.md). A pass writes the lines, or only counts them, so that a buffer that is too short is refused before anything is written. Each group
 // of lines is made in a small buffer of its own, and goes out from there.
-ghost use Rattle.std.specs.Prelude.{true, ◌++◌, ◌≡◌, ◌+◌, ◌-◌, ◌*◌, ◌<◌, ◌≤◌, length};
+ghost use Rattle.std.specs.Prelude.{true, Ok, ◌++◌, ◌≡◌, ◌+◌, ◌-◌, ◌*◌, ◌<◌, ◌≤◌, length};
 ghost use Rattle.slices.specs.Bytes.{bytes};
 ghost use Rattle.lines.specs.Line.{number_line};
 ghost use Rattle.tables.specs.Standing.{oldest_first};
+ghost use Rattle.monitor.specs.Standing.{told_outlook, told_left};
 ghost use Rattle.trace.specs.Seen.{sent_from};
 ghost use Rattle.trace.specs.Standing.{name_text, opening_text, places_text, topic_text, message_text, topics_text, standing_lines, standing_text, standing_end, standing_kept};
 ghost use Rattle.trace.specs.Trace.{enough, put_if};
 
 use crate::groups::read_message;
 use crate::run::{TraceEnd, buffer_128, buffer_256};
-use crate::seen::{Seen, find_named, is_named, see_all};
+use crate::seen::{Seen, find_named, is_named, is_publish, see_all};
 use crate::standing_lines::{put_name, put_opening, put_topic};
 use lines::put::{put_bytes, put_number_line};
-use monitor::message::{MqttPacketType, type_number};
-use monitor::standing::{Left, Outlook, standing, tokens_left};
+use monitor::message::MqttPacketType;
+use monitor::standing::{Left, Outlook};
 use monitor::state::MqttMonitor;
-use tables::buckets::{BUCKETS, RateBucket, empty_bucket};
+use tables::buckets::{BUCKETS, RateBucket};
 use tables::standing::{Opening, oldest_live, opening_new, taken};
 use topics::matching::Matching;
 
@@ -86,16 +87,16 @@ fn pass_topic(
     out: &mut [u8],
     at: usize,
     topic: &[u8],
-    outlook: Outlook,
-    left: Left,
+    outlook: &Outlook,
+    left: &Left,
     last: u64,
     write: bool,
 ) -> usize
     requires small { at ≤ 1000000 }
     requires short { length topic.now ≤ 128 }
-    requires room { write ≡ true → at + length (topic_text topic.now outlook left last) ≤ length out.old }
-    ensures next { (result ≡ at + length (topic_text topic.now outlook left last)) × (result ≤ at + 490) }
-    ensures bytes { out.new ≡ put_if write out.old at (topic_text topic.now outlook left last) }
+    requires room { write ≡ true → at + length (topic_text topic.now (told_outlook (Ok outlook.now)) (told_left (Ok left.now)) last) ≤ length out.old }
+    ensures next { (result ≡ at + length (topic_text topic.now (told_outlook (Ok outlook.now)) (told_left (Ok left.now)) last)) × (result ≤ at + 490) }
+    ensures bytes { out.new ≡ put_if write out.old at (topic_text topic.now (told_outlook (Ok outlook.now)) (told_left (Ok left.now)) last) }
 {
     let mut lines = group_buffer();
     let n = put_topic(&mut lines, 0, topic, outlook, left, last);
@@ -106,32 +107,26 @@ fn pass_topic(
 fn pass_places(
     text: &[u8],
     first: usize,
-    buckets: [RateBucket; BUCKETS],
+    buckets: &[RateBucket; BUCKETS],
     out: &mut [u8],
     at: usize,
     write: bool,
 ) -> usize
     requires small { at ≤ 1000 }
-    requires room { write ≡ true → at + length (places_text (sent_from text.now first) (oldest_first 32 buckets)) ≤ length out.old }
-    ensures next { (result ≡ at + length (places_text (sent_from text.now first) (oldest_first 32 buckets))) × (result ≤ at + 12704) }
-    ensures bytes { out.new ≡ put_if write out.old at (places_text (sent_from text.now first) (oldest_first 32 buckets)) }
+    requires room { write ≡ true → at + length (places_text (sent_from text.now first) (oldest_first 32 buckets.now)) ≤ length out.old }
+    ensures next { (result ≡ at + length (places_text (sent_from text.now first) (oldest_first 32 buckets.now))) × (result ≤ at + 12704) }
+    ensures bytes { out.new ≡ put_if write out.old at (places_text (sent_from text.now first) (oldest_first 32 buckets.now)) }
 {
-    let mut rest = buckets;
+    let mut rest = *buckets;
     let mut name = buffer_128();
     let mut p = at;
-    let mut left = BUCKETS;
-    while 0 < left {
-        let oldest = oldest_live(rest);
-        if BUCKETS <= oldest {
+    for _turn in 0..BUCKETS {
+        let Some(oldest) = oldest_live(&rest) else {
             return p;
-        }
-        let bucket = rest[oldest];
-        let held = bucket.id;
-        let n = find_named(text, first, held, &mut name);
+        };
+        let n = find_named(text, first, &rest[oldest].id, &mut name);
         p = pass_place(out, p, &name[..n], write);
-        let freed = empty_bucket();
-        rest[oldest] = freed;
-        left -= 1;
+        rest[oldest] = RateBucket::FREE;
     }
     p
 }
@@ -140,7 +135,7 @@ fn pass_places(
 fn pass_message(
     text: &[u8],
     next: usize,
-    m: MqttMonitor,
+    m: &MqttMonitor,
     packet_type: MqttPacketType,
     topic: &[u8],
     last: u64,
@@ -150,29 +145,34 @@ fn pass_message(
 ) -> usize
     requires small { at ≤ 1000000 }
     requires short { length topic.now ≤ 128 }
-    requires room { write ≡ true → at + length (message_text m last packet_type topic.now (sent_from text.now next)) ≤ length out.old }
-    ensures next { (result ≡ at + length (message_text m last packet_type topic.now (sent_from text.now next))) × (result ≤ at + 490) }
-    ensures bytes { out.new ≡ put_if write out.old at (message_text m last packet_type topic.now (sent_from text.now next)) }
+    requires room { write ≡ true → at + length (message_text m.now last packet_type topic.now (sent_from text.now next)) ≤ length out.old }
+    ensures next { (result ≡ at + length (message_text m.now last packet_type topic.now (sent_from text.now next))) × (result ≤ at + 490) }
+    ensures bytes { out.new ≡ put_if write out.old at (message_text m.now last packet_type topic.now (sent_from text.now next)) }
 {
-    if type_number(packet_type) != 3 {
+    if !is_publish(packet_type) {
         return at;
     }
-    let outlook = standing(m, topic);
+    let Ok(outlook) = m.standing(topic) else {
+        return at;
+    };
     if outlook.rate == 0 {
         return at;
     }
     if is_named(text, next, topic) {
         return at;
     }
-    let left = tokens_left(m, topic, last);
-    pass_topic(out, at, topic, outlook, left, last, write)
+    // A topic that the limiter counts is not refused here either.
+    let Ok(left) = m.tokens_left(topic, last) else {
+        return at;
+    };
+    pass_topic(out, at, topic, &outlook, &left, last, write)
 }
 
 // The topics that reached the limiter.
 fn pass_topics(
     text: &[u8],
     first: usize,
-    m: MqttMonitor,
+    m: &MqttMonitor,
     last: u64,
     out: &mut [u8],
     at: usize,
@@ -180,9 +180,9 @@ fn pass_topics(
 ) -> usize
     requires small { at ≤ 20000 }
     requires short { first < length text.now → length text.now ≤ 65536 }
-    requires room { write ≡ true → at + length (topics_text m last (sent_from text.now first)) ≤ length out.old }
-    ensures next { (result ≡ at + length (topics_text m last (sent_from text.now first))) × (result ≤ at + 729900) }
-    ensures bytes { out.new ≡ put_if write out.old at (topics_text m last (sent_from text.now first)) }
+    requires room { write ≡ true → at + length (topics_text m.now last (sent_from text.now first)) ≤ length out.old }
+    ensures next { (result ≡ at + length (topics_text m.now last (sent_from text.now first))) × (result ≤ at + 729900) }
+    ensures bytes { out.new ≡ put_if write out.old at (topics_text m.now last (sent_from text.now first)) }
 {
     let mut topic = buffer_128();
     let mut payload = buffer_256();
@@ -193,15 +193,12 @@ fn pass_topics(
         if group.number != 0 {
             return p;
         }
-        let msg = group.msg;
-        let n = msg.topic_len as usize;
-        let packet_type = msg.packet_type;
         p = pass_message(
             text,
             group.next,
             m,
-            packet_type,
-            &topic[..n],
+            group.msg.packet_type,
+            group.topic(&topic),
             last,
             out,
             p,
@@ -213,20 +210,19 @@ fn pass_topics(
 }
 
 // All lines, written from the buffer's beginning on, or only counted.
-fn pass(text: &[u8], seen: Seen, out: &mut [u8], write: bool) -> usize
-    requires short { seen.first < length text.now → length text.now ≤ 65536 }
-    requires room { write ≡ true → length (standing_lines seen.monitor seen.last (sent_from text.now seen.first)) ≤ length out.old }
-    ensures next { (result ≡ length (standing_lines seen.monitor seen.last (sent_from text.now seen.first))) × (result ≤ enough) }
-    ensures bytes { out.new ≡ put_if write out.old 0 (standing_lines seen.monitor seen.last (sent_from text.now seen.first)) }
+fn pass(text: &[u8], seen: &Seen, out: &mut [u8], write: bool) -> usize
+    requires short { seen.now.first < length text.now → length text.now ≤ 65536 }
+    requires room { write ≡ true → length (standing_lines seen.now.monitor seen.now.last (sent_from text.now seen.now.first)) ≤ length out.old }
+    ensures next { (result ≡ length (standing_lines seen.now.monitor seen.now.last (sent_from text.now seen.now.first))) × (result ≤ enough) }
+    ensures bytes { out.new ≡ put_if write out.old 0 (standing_lines seen.now.monitor seen.now.last (sent_from text.now seen.now.first)) }
 {
-    let m = seen.monitor;
-    let buckets = m.rate_buckets;
+    let buckets = &seen.monitor.rate_buckets;
     let last = seen.last;
     let first = seen.first;
     let places = pass_head(out, 0, last, taken(buckets), write);
     let new = pass_places(text, first, buckets, out, places, write);
     let topics = pass_new(out, new, last, opening_new(buckets), write);
-    pass_topics(text, first, m, last, out, topics, write)
+    pass_topics(text, first, &seen.monitor, last, out, topics, write)
 }
 
 // Where the limit stands after a trace, into a lent buffer: 28, with nothing written, where the buffer is shorter than all lines, which a buffer of `enough` bytes never is.
@@ -237,7 +233,7 @@ pub fn write_standing(text: &[u8], matching: Matching, out: &mut [u8]) -> TraceE
 {
     let seen = see_all(text, matching);
     let mut unused = [0u8; 1];
-    let length = pass(text, seen, &mut unused, false);
+    let length = pass(text, &seen, &mut unused, false);
     if out.len() < length {
         return TraceEnd {
             number: 28,
@@ -245,7 +241,7 @@ pub fn write_standing(text: &[u8], matching: Matching, out: &mut [u8]) -> TraceE
             length: 0,
         };
     }
-    pass(text, seen, out, true);
+    pass(text, &seen, out, true);
     TraceEnd {
         number: seen.number,
         line: seen.line,

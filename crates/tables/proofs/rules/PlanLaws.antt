@@ -69,7 +69,7 @@ rule_once NotUtf8 TableFull p = absurd (omega (arith, p))
 rule_once NotUtf8 BadPattern p = absurd (omega (arith, p))
 rule_once NotUtf8 NotUtf8 p = refl
 
-rule_real : (e : RuleRefusal) → 1 ≤ rule_number e
+pub rule_real : (e : RuleRefusal) → 1 ≤ rule_number e
 rule_real TableFull = omega arith
 rule_real BadPattern = omega arith
 rule_real NotUtf8 = omega arith

@@ -3,14 +3,11 @@
 -- at least the bytes of its keys and LFs: 16 for an opening, 44 for a message (`opening_further`, `message_further`). Assumes nothing.
 use Prim.Native.Nat.{ℕ, ◌+◌, ◌≤◌}
 use mathlib.Core.Path.{◌≡◌}
-use mathlib.Core.Bool.{cond}
 use mathlib.Core.List.{List}
 use native.Mathlib.Omega.{arith}
-use lib.Dec.{eqb}
-use borrow.Author.Tests.{eqb-true, eqb-false, eq-eqb}
-use Rattle.laws.proofs.Cases.{by}
+use borrow.Author.Tests.{eq-eqb}
 use Rattle.slices.specs.Bytes.{bytes}
-use Rattle.lines.specs.Field.{number_field, word_field, hex_field}
+use Rattle.lines.specs.Field.{number_field, word_field}
 use Rattle.lines.specs.ReadHex.{unhex}
 use Rattle.lines.specs.declared.read.Field.{Field}
 use Rattle.trace.specs.Groups.{opening_stopped, opening1, opening2, opening_of, OpeningIn}

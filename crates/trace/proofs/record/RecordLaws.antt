@@ -1,7 +1,7 @@
 -- How a message's lines grow by one alert (`alerts_more`), and how long they are at most: 121 bytes an alert, 528 a record, 109 the closing lines. A sum of lengths as the code takes it, each
 -- capped at the largest 64-bit number, is the length of the text (`alert_sum`, `record_sum`, `closing_sum`). Assumes nothing.
 use Prim.Native.Nat.{ℕ, ◌+◌, ◌^◌, ◌≤◌, ◌<◌}
-use mathlib.Core.Path.{◌≡◌, refl}
+use mathlib.Core.Path.{◌≡◌, refl, ap}
 use mathlib.Core.Bool.{Bool}
 use mathlib.Core.List.{List, [], ◌∷◌, ◌++◌, map, append_assoc}
 use native.Mathlib.Omega.{arith}
@@ -18,7 +18,10 @@ use Rattle.monitor.specs.declared.alerts.AlertSeverity.{AlertSeverity}
 use Rattle.monitor.specs.declared.alerts.AlertSeverity.TheVariants.{Info, Low, Medium, High, Critical}
 use Rattle.monitor.specs.declared.alerts.MqttInspectResult.{MqttInspectResult}
 use Rattle.monitor.specs.declared.alerts.SecurityAlert.{SecurityAlert}
-use Rattle.trace.specs.Record.{alert_text, alerts_text, record_text, closing_text}
+use Rattle.std.specs.Prelude.{Result, Ok, Err}
+use Rattle.trace.specs.Record.{alert_text, alerts_text, record_text, closing_text, Written, written_by}
+use Rattle.trace.specs.declared.record.RecordRefusal.{RecordRefusal}
+use Rattle.trace.specs.declared.record.RecordRefusal.TheVariants.{BadState, TooShort}
 
 -- what stands past the end of an array of alerts, as the checker reads it
 abbrev pub blank : SecurityAlert
@@ -125,3 +128,15 @@ module _ (number line inspected total : ℕ) where
         → r ≡ capped (length (number_line (bytes "inspected=") inspected)) → s ≡ capped (length (number_line (bytes "total=") total))
         → (p + q + r + s ≡ length (closing_text number line inspected total)) × (p + q + r + s ≤ 109)
     closing_sum ep eq er es = (omega (arith, closing_length, closing_short), omega (arith, closing_length, closing_short))
+
+-- number and length tell the whole answer
+pub written_once : (r s : Result ℕ RecordRefusal) → written_by r ≡ written_by s → r ≡ s
+written_once (Ok m) (Ok n) e = ap Ok (ap (λ (w : Written). w.length) e)
+written_once (Ok m) (Err BadState) e = let k = ap (λ (w : Written). w.number) e in absurd (omega (arith, k))
+written_once (Ok m) (Err TooShort) e = let k = ap (λ (w : Written). w.number) e in absurd (omega (arith, k))
+written_once (Err BadState) (Ok n) e = let k = ap (λ (w : Written). w.number) e in absurd (omega (arith, k))
+written_once (Err TooShort) (Ok n) e = let k = ap (λ (w : Written). w.number) e in absurd (omega (arith, k))
+written_once (Err BadState) (Err BadState) e = refl
+written_once (Err BadState) (Err TooShort) e = let k = ap (λ (w : Written). w.number) e in absurd (omega (arith, k))
+written_once (Err TooShort) (Err BadState) e = let k = ap (λ (w : Written). w.number) e in absurd (omega (arith, k))
+written_once (Err TooShort) (Err TooShort) e = refl

@@ -1,17 +1,14 @@
 -- What the lent buffers of a group hold at exit, for whoever goes on from them: where the group was read they begin with its bytes
 -- (`topic_part`, `payload_part`), and they are as long as before. Assumes nothing.
-use Prim.Native.Nat.{ℕ, ◌-◌, ◌/◌, ◌≤◌}
+use Prim.Native.Nat.{ℕ, ◌≤◌}
 use mathlib.Core.Path.{◌≡◌, ◌∙◌}
 use mathlib.Core.List.{List}
 use native.Mathlib.Omega.{arith}
-use lib.ListN.{length, take, length-take, length-drop}
+use lib.ListN.{length, take}
 use borrow.Author.Tests.{eq-eqb}
 use Rattle.slices.specs.Bytes.{bytes}
-use Rattle.lines.specs.Field.{hex_field, value_of, hex_kept}
-use Rattle.lines.specs.ReadHex.{unhex}
-use Rattle.lines.specs.Span.{part}
-use Rattle.lines.proofs.HexRound.{unhex-length}
-use Rattle.lines.proofs.read.KeptLaws.{kept_bytes, kept_long}
+use Rattle.lines.specs.Field.{hex_kept}
+use Rattle.lines.proofs.read.KeptLaws.{kept_long}
 use Rattle.trace.specs.Groups.{message7, message_at, topic_in, topic1, topic2, topic3, topic4, topic_kept}
 use Rattle.trace.specs.Groups.{payload_in, payload1, payload2, payload3, payload4, payload5, payload6, payload_kept}
 use Rattle.trace.specs.declared.groups.MessageLines.{MessageLines}

@@ -4,6 +4,7 @@ use Prim.Native.Nat.{ℕ, suc, ◌+◌, ◌-◌, ◌≤◌, ◌<◌}
 use mathlib.Core.Path.{◌≡◌, refl, sym, ap, ◌∙◌}
 use mathlib.Core.Bool.{Bool, true, false}
 use mathlib.Core.List.{List, ◌++◌}
+use Rattle.std.specs.Prelude.{Ok, Err}
 use native.Mathlib.Omega.{arith}
 use native.Mathlib.Numerals.{add-one}
 use lib.Dec.{eqb, leb}
@@ -15,23 +16,21 @@ use Rattle.laws.proofs.Fuel.{fuel}
 use Rattle.lines.specs.Wrote.{Wrote, place_after}
 use Rattle.lines.proofs.put.WroteLaws.{wrote_then}
 use Rattle.topics.specs.declared.matching.Matching.{Matching}
-use Rattle.topics.specs.declared.matching.Matching.TheVariants.{Port}
-use Rattle.monitor.specs.Calls.{fresh}
 use Rattle.monitor.specs.Inspect.{applied, result_of}
 use Rattle.monitor.specs.Plan.{plan_of}
 use Rattle.monitor.specs.Runs.{Call}
-use Rattle.monitor.specs.State.{matcher_of, with_rules}
+use Rattle.monitor.specs.State.{matcher_of}
 use Rattle.monitor.specs.declared.plan.Plan.{Plan}
 use Rattle.monitor.specs.declared.state.MqttMonitor.{MqttMonitor}
 use Rattle.trace.specs.Groups.{message_at, topic_in, payload_in}
 use Rattle.trace.specs.Record.{record_text, closing_text}
-use Rattle.trace.specs.Trace.{Messages, ended_by, sent_first, planned, loaded, rules_of, messages_from, messages_of, text_from, trace_text, enough, put_if, whole_end}
+use Rattle.trace.specs.Trace.{Messages, Loaded, ended_by, sent_first, planned, loaded_as, loaded, messages_from, messages_of, text_from, trace_text, enough, put_if, whole_end}
 use Rattle.trace.specs.declared.groups.MessageLines.{MessageLines}
-use Rattle.trace.specs.declared.run.LoadedRules.{LoadedRules}
+use Rattle.trace.specs.declared.reading.Place.{Place}
+use Rattle.trace.specs.declared.reading.Stop.{Stop}
 use Rattle.trace.specs.declared.run.TraceEnd.{TraceEnd}
 use Rattle.trace.proofs.Bound.{loaded_few, loaded_short, trace_enough}
 use Rattle.trace.proofs.groups.GroupLaws.{message_further}
-use Rattle.trace.proofs.run.LoadLaws.{loaded-monitor, same_rules}
 
 -- a message that was read ends further on
 pub read_further : (s : List ℕ) (at : ℕ) {r : MessageLines} → r ≡ message_at s at → r.number ≡ 0 → at + 44 ≤ r.next
@@ -133,61 +132,39 @@ pub loaded_messages : (matching : Matching) (s : List ℕ) → let l = loaded ma
 unfolding messages_of
 loaded_messages matching s z = rw (eq-eqb _ _ z)
 
--- a pass begins with a fresh monitor that gets the rules, which are the same for any matcher
-module _ (matching : Matching) (s : List ℕ) {l : LoadedRules} (port : l ≡ rules_of (loaded Port s)) {m : MqttMonitor} (f : m ≡ fresh matching l.default_action) where
-  e : l ≡ rules_of (loaded matching s)
-  e = port ∙ same_rules matching s
-
-  pub monitor_is : with_rules m l.rules l.rule_count ≡ (loaded matching s).monitor
-  monitor_is = rw (f, e) (loaded-monitor matching s)
-
-  -- it has the matcher that was asked for
-  pub choice : m.matching ≡ matching
-  unfolding fresh
-  choice = ap (λ (x : MqttMonitor). x.matching) f
-
-  pub number_is : (loaded matching s).number ≡ l.number
-  number_is = ap (λ (x : LoadedRules). x.number) (sym e)
-
-  pub line_is : (loaded matching s).line ≡ l.line
-  line_is = ap (λ (x : LoadedRules). x.line) (sym e)
-
-  pub next_is : (loaded matching s).next ≡ l.next
-  next_is = ap (λ (x : LoadedRules). x.next) (sym e)
-
-  -- the messages are taken from the place after the rules
-  pub going_start : (write : Bool) (d : List ℕ) → l.number ≡ 0 → Going m.matching s write d d (with_rules m l.rules l.rule_count) 1 l.next l.line 0
+module _ (matching : Matching) (s : List ℕ) {m : MqttMonitor} where
+  -- a pass takes the messages from the place after the rules
+  pub going_start : {place : Place} → loaded_as (Ok place) m ≡ loaded matching s → (write : Bool) (d : List ℕ) → Going matching s write d d m 1 place.next place.line 0
   unfolding trace_text
-  going_start write d z =
-      let y : (loaded matching s).number ≡ 0 = number_is ∙ z in
-      let t = loaded_messages matching s y in
-      rw (monitor_is, choice, ← next_is, ← line_is)
-      (record {
+  going_start {place} e write d =
+      let y : (loaded matching s).number ≡ 0 = ap (λ (l : Loaded). l.number) (sym e) in
+      let t = rw (← e) at (loaded_messages matching s y) in
+      record {
         short = loaded_short matching s y;
-        lines = omega (arith, (loaded_few matching s).line);
+        lines = omega (arith, rw (← e) at (loaded_few matching s).line);
         ordinal = omega arith;
         long = refl;
-        count = rw t (omega arith);
-        bytes = rw t;
+        count = rw (t, ← e) (omega arith);
+        bytes = rw (t, ← e);
         number = rw t;
         last = rw t;
-      })
+      }
 
   -- where the rules were not loaded, a trace has only its closing lines
-  module _ (z : l.number ≡ 0 → ⊥) where
-    pub unloaded_text : trace_text matching s ≡ closing_text l.number l.line m.total_inspected m.total_alerts
-    unfolding trace_text messages_of text_from
-    unloaded_text =
-        let i : (loaded matching s).monitor.total_inspected ≡ m.total_inspected = ap (λ (x : MqttMonitor). x.total_inspected) (sym monitor_is) in
-        let a : (loaded matching s).monitor.total_alerts ≡ m.total_alerts = ap (λ (x : MqttMonitor). x.total_alerts) (sym monitor_is) in
-        rw (number_is, ne_eqb _ _ z, line_is, i, a)
+  module _ (stop : Stop) (e : loaded_as (Err stop) m ≡ loaded matching s) where
+    refused : stop.number ≡ 0 → ⊥
+    refused z = omega (arith, z, stop.refused)
 
-    pub unloaded_messages : messages_of matching s ≡ ended_by l.number l.line
+    pub unloaded_messages : messages_of matching s ≡ ended_by stop.number stop.line
     unfolding messages_of
-    unloaded_messages = rw (number_is, ne_eqb _ _ z, line_is)
+    unloaded_messages = rw (← e, ne_eqb _ _ refused)
+
+    pub unloaded_text : trace_text matching s ≡ closing_text stop.number stop.line m.total_inspected m.total_alerts
+    unfolding trace_text text_from
+    unloaded_text = rw (unloaded_messages, ← e)
 
     pub unloaded_end : {r : TraceEnd}
-        → r ≡ record { number = l.number; line = l.line; length = 0 + length (closing_text l.number l.line m.total_inspected m.total_alerts) }
+        → r ≡ record { number = stop.number; line = stop.line; length = 0 + length (closing_text stop.number stop.line m.total_inspected m.total_alerts) }
         → r ≡ whole_end matching s
     unloaded_end q =
         let c : 0 + length (trace_text matching s) ≡ length (trace_text matching s) = omega arith in

@@ -4,31 +4,33 @@ use Prim.Native.Nat.{ℕ, zero, suc, ◌+◌, ◌≤◌, ◌<◌}
 use mathlib.Core.Path.{◌≡◌, refl, sym, ap, ◌∙◌}
 use mathlib.Core.Bool.{Bool, true, false, ◌&&◌}
 use mathlib.Core.List.{List, [], ◌∷◌}
+use Rattle.std.specs.Prelude.{Result, Ok, Err}
 use native.Mathlib.Omega.{arith}
 use lib.Dec.{eqb, leb}
 use lib.ListN.{length}
-use borrow.Author.Tests.{eqb-true, eq-eqb, ne_eqb}
+use borrow.Author.Tests.{eqb-true, ne_eqb}
 use Rattle.laws.proofs.Cases.{by}
 use Rattle.slices.specs.Bytes.{same}
 use Rattle.topics.specs.declared.matching.Matching.{Matching}
-use Rattle.topics.specs.declared.matching.Matching.TheVariants.{Port}
 use Rattle.tables.specs.Identity.{id_of, is_of}
 use Rattle.tables.specs.declared.identity.Id.{Id}
-use Rattle.monitor.specs.Calls.{fresh}
-use Rattle.monitor.specs.Inspect.{inspect_with}
+use Rattle.monitor.specs.Inspect.{inspect_with, inspected_as}
 use Rattle.monitor.specs.Message.{type_number}
 use Rattle.monitor.specs.Runs.{Call, shipped, after_by}
-use Rattle.monitor.specs.State.{matcher_of, with_rules}
+use Rattle.monitor.specs.State.{matcher_of}
 use Rattle.monitor.specs.Ended.{Inspected}
+use Rattle.monitor.specs.declared.inspection.Inspection.{Inspection}
+use Rattle.monitor.specs.declared.refusal.Refusal.{Refusal}
 use Rattle.monitor.specs.declared.state.MqttMonitor.{MqttMonitor}
 use Rattle.trace.specs.Groups.{message_at, topic_in, payload_in}
 use Rattle.trace.specs.Seen.{sent_from, first_place, last_time, end_state, seen_in, named_by, is_publish, is_named}
-use Rattle.trace.specs.Trace.{Messages, ended_by, loaded, rules_of, messages_from, messages_of}
+use Rattle.trace.specs.Trace.{Messages, Loaded, ended_by, loaded_as, loaded, messages_from, messages_of}
 use Rattle.trace.specs.declared.groups.MessageLines.{MessageLines}
-use Rattle.trace.specs.declared.run.LoadedRules.{LoadedRules}
+use Rattle.trace.specs.declared.reading.Place.{Place}
+use Rattle.trace.specs.declared.reading.Stop.{Stop}
 use Rattle.trace.proofs.Bound.{loaded_few, loaded_short}
 use Rattle.trace.proofs.groups.GroupLaws.{message_further}
-use Rattle.trace.proofs.run.RunLaws.{left, left_turn, left_end, left_stop, sent_at, loaded_messages, monitor_is, choice, number_is, line_is, next_is, unloaded_messages}
+use Rattle.trace.proofs.run.RunLaws.{left, left_turn, left_end, left_stop, sent_at, loaded_messages, unloaded_messages}
 
 -- which messages there are does not depend on how many lines came before them
 messages_alike : (k : ℕ) (s : List ℕ) (at line other : ℕ) → (messages_from k s at line).sent ≡ (messages_from k s at other).sent
@@ -136,33 +138,39 @@ pub record Seeing (matching : Matching) (s : List ℕ) (m : MqttMonitor) (last a
   pub number : (left s at line).number ≡ (messages_of matching s).number
   pub ended : (left s at line).line ≡ (messages_of matching s).line
 
--- it begins with a fresh monitor that gets the rules
-module _ (matching : Matching) (s : List ℕ) {l : LoadedRules} (port : l ≡ rules_of (loaded Port s)) {m : MqttMonitor} (f : m ≡ fresh matching l.default_action) where
-  module _ (z : l.number ≡ 0) where
-    pub first_is : l.next ≡ first_place matching s
+-- it begins with the monitor that is loaded
+module _ (matching : Matching) (s : List ℕ) {m : MqttMonitor} where
+  module _ {place : Place} (e : loaded_as (Ok place) m ≡ loaded matching s) where
+    pub first_is : place.next ≡ first_place matching s
     unfolding first_place
-    first_is = rw (eq-eqb _ _ (number_is matching s port f ∙ z)) (sym (next_is matching s port f))
+    first_is = rw (← e)
 
-    pub seeing_start : Seeing m.matching s (with_rules m l.rules l.rule_count) 0 l.next l.line
+    pub seeing_start : Seeing matching s m 0 place.next place.line
     seeing_start =
-        let y : (loaded matching s).number ≡ 0 = number_is matching s port f ∙ z in
-        let t = loaded_messages matching s y in
-        let sent : sent_from s (loaded matching s).next ≡ (messages_of matching s).sent = sym (ap (λ (ms : Messages). ms.sent) t ∙ sent-line s (loaded matching s).next (loaded matching s).line) in
-        rw (monitor_is matching s port f, choice matching s port f, ← next_is matching s port f, ← line_is matching s port f)
-        (record {
+        let y : (loaded matching s).number ≡ 0 = ap (λ (l : Loaded). l.number) (sym e) in
+        let t = rw (← e) at (loaded_messages matching s y) in
+        let sent : sent_from s place.next ≡ (messages_of matching s).sent = sym (ap (λ (ms : Messages). ms.sent) t ∙ sent-line s place.next place.line) in
+        record {
           short = loaded_short matching s y;
-          lines = omega (arith, (loaded_few matching s).line);
-          state = rw sent;
+          lines = omega (arith, rw (← e) at (loaded_few matching s).line);
+          state = rw (sent, ← e);
           time = rw sent;
           number = rw t;
           ended = rw t;
-        })
+        }
 
   -- where the rules are refused there is no message
-  pub unseen : (l.number ≡ 0 → ⊥)
-      → record { number = l.number; line = l.line; first = length s; last = 0; monitor = with_rules m l.rules l.rule_count } ≡ seen_in matching s
+  pub unseen : (stop : Stop) → loaded_as (Err stop) m ≡ loaded matching s
+      → record { number = stop.number; line = stop.line; first = length s; last = 0; monitor = m } ≡ seen_in matching s
   unfolding first_place last_time after_by
-  unseen z = rw (unloaded_messages matching s port f z, ne_eqb _ _ (λ y. z (sym (number_is matching s port f) ∙ y)), monitor_is matching s port f)
+  unseen stop e =
+      let z : stop.number ≡ 0 → ⊥ = λ z. omega (arith, z, stop.refused) in
+      rw (unloaded_messages matching s stop e, ← e, ne_eqb _ _ z)
+
+-- the state that an inspection leaves
+pub inspected_state : (r : Result Inspection Refusal) (m : MqttMonitor) → (inspected_as r m).monitor ≡ m
+inspected_state (Ok i) m = refl
+inspected_state (Err e) m = refl
 
 module _ {matching : Matching} {s : List ℕ} {m : MqttMonitor} {last at line : ℕ} (g : Seeing matching s m last at line) where
   -- a message that was read is inspected

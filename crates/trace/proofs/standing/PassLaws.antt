@@ -1,11 +1,14 @@
 -- A pass over lines, which writes them or only counts them: what is left to go out (`Passing`) begins with all of it (`passing_start`), goes on behind a part (`passing_turn`), for which there is
 -- room (`passing_room`), and ends with nothing left (`passing_done`). Then the lines of each kind, part by part. Assumes nothing.
-use Prim.Native.Nat.{ℕ, zero, suc, ◌+◌, ◌-◌, ◌^◌, ◌≤◌, ◌<◌}
+use Prim.Native.Nat.{ℕ, zero, suc, ◌+◌, ◌^◌, ◌≤◌, ◌<◌}
 use mathlib.Core.Bool.{Bool, true, false}
 use mathlib.Core.List.{List, [], ◌∷◌, ◌++◌}
 use mathlib.Core.Path.{◌≡◌, refl, ap, ◌∙◌}
 use native.Mathlib.Omega.{arith}
-use borrow.Author.Tests.{eq-eqb, ne_eqb, le-leb, lt-leb, lt-ltb, le-ltb}
+use lib.Dec.{eqb, ltb}
+use Rattle.std.specs.Prelude.{Err}
+use Rattle.laws.proofs.Cases.{by}
+use borrow.Author.Tests.{le-leb, lt-leb, lt-ltb, le-ltb}
 use lib.ListN.{length, take, drop, get_or, set, length-append}
 use lib.Seq.{sets, sets-eq, length-sets, take-append_seam}
 use Rattle.slices.specs.Bytes.{bytes}
@@ -19,7 +22,12 @@ use Rattle.tables.specs.Standing.{oldest_live, oldest_first}
 use Rattle.tables.specs.declared.buckets.RateBucket.{RateBucket}
 use Rattle.monitor.specs.Message.{type_number}
 use Rattle.monitor.specs.Runs.{Call}
-use Rattle.monitor.specs.Standing.{standing_in, left_in, Left, Outlook}
+use Rattle.monitor.specs.Plan.{gate_in}
+use Rattle.monitor.specs.Refusal.{refusal_number}
+use Rattle.monitor.specs.Standing.{Left, Outlook, a_publish, standing_with, standing_in, left_in, told_left}
+use Rattle.monitor.specs.State.{well_formed, matcher_of}
+use Rattle.monitor.specs.declared.refusal.Refusal.{Refusal}
+use Rattle.monitor.specs.declared.refusal.Refusal.TheVariants.{TableFull, NotHeld, BadInput, Malformed, NotUtf8}
 use Rattle.monitor.specs.declared.message.MqttPacketType.{MqttPacketType}
 use Rattle.monitor.specs.declared.state.MqttMonitor.{MqttMonitor}
 use Rattle.trace.specs.Groups.{message_at, topic_in}
@@ -85,12 +93,12 @@ head_short last count h g =
     (omega (arith, number_line-length (bytes "last=") last, number_line-length (bytes "taken=") count, decimal_20 last h, decimal_20 count g))
 
 -- the places that are taken: the oldest of those that are left, and the others
-module _ (calls : List Call) (bs : List RateBucket) {left at : ℕ} (more : 0 < left) (oldest : at ≡ oldest_live bs) where
-  again : left ≡ suc (left - 1)
+module _ (calls : List Call) (bs : List RateBucket) (less : ℕ) {left at : ℕ} (more : less + 1 ≡ left) (oldest : at ≡ oldest_live bs) where
+  again : left ≡ suc less
   again = omega arith
 
   pub places_turn : at < length bs → {name : List ℕ} → name ≡ named_by calls (get_or bs at no_bucket).id
-      → places_text calls (oldest_first left bs) ≡ name_text (bytes "place=") name ++ places_text calls (oldest_first (left - 1) (set bs at empty_bucket))
+      → places_text calls (oldest_first left bs) ≡ name_text (bytes "place=") name ++ places_text calls (oldest_first less (set bs at empty_bucket))
   unfolding places_text oldest_first
   places_turn h n =
       let g : oldest_live bs < length bs = omega arith in
@@ -107,20 +115,44 @@ unfolding places_text oldest_first
 places_none calls bs {left} h = let z : left ≡ zero = omega arith in ap (λ (k : ℕ). places_text calls (oldest_first k bs)) z
 
 -- a message's lines, by the tests: it is a Publish, the limiter counts it, no later one names its topic
-module _ (m : MqttMonitor) (last : ℕ) (type : MqttPacketType) (topic : List ℕ) (later : List Call) {n : ℕ} (number : n ≡ type_number type) where
-  pub quiet_type : (n ≡ 3 → ⊥) → message_text m last type topic later ≡ []
-  quiet_type z = rw (← number, ne_eqb n 3 z)
+module _ (m : MqttMonitor) (last : ℕ) (type : MqttPacketType) (topic : List ℕ) (later : List Call) {publish : Bool} (is : publish ≡ eqb (type_number type) 3) where
+  pub quiet_type : publish ≡ false → message_text m last type topic later ≡ []
+  quiet_type z = rw (← is, z)
 
-  module _ (e : n ≡ 3) {o : Outlook} (stands : o ≡ standing_in m topic) where
+  module _ (e : publish ≡ true) {o : Outlook} (stands : o ≡ standing_in m topic) where
     pub quiet_rate : o.rate ≡ 0 → message_text m last type topic later ≡ []
-    quiet_rate z = rw (← number, eq-eqb n 3 e, ← stands, z)
+    quiet_rate z = rw (← is, e, ← stands, z)
 
     module _ (r : 0 < o.rate) {named : Bool} (told : named ≡ is_named later topic) where
       pub quiet_named : named ≡ true → message_text m last type topic later ≡ []
-      quiet_named y = rw (← number, eq-eqb n 3 e, ← stands, lt-ltb 0 o.rate r, ← told, y)
+      quiet_named y = rw (← is, e, ← stands, lt-ltb 0 o.rate r, ← told, y)
 
       pub told_topic : named ≡ false → {l : Left} → l ≡ left_in m topic last → message_text m last type topic later ≡ topic_text topic o l last
-      told_topic y q = rw (← number, eq-eqb n 3 e, ← stands, lt-ltb 0 o.rate r, ← told, y, ← q)
+      told_topic y q = rw (← is, e, ← stands, lt-ltb 0 o.rate r, ← told, y, ← q)
+
+-- whoever the limiter counts is told what is left
+pub left_told : (m : MqttMonitor) (topic : List ℕ) (t : ℕ) → 0 < (standing_in m topic).rate → (left_in m topic t).number ≡ 0
+unfolding standing_with left_in
+left_told m topic t =
+    by (well_formed m)
+    (λ w.
+    by (ltb 128 (length topic)) (λ l. rw (w, l) (λ h. absurd (omega (arith, h))))
+    (λ l. let g = gate_in (matcher_of m) m a_publish topic in by (ltb 0 g.denial) (λ d. rw (w, l, d) (λ h. refl)) (λ d. rw (w, l, d) (λ h. refl))))
+    (λ w. rw w (λ h. absurd (omega (arith, h))))
+
+refusal_real : (e : Refusal) → 1 ≤ refusal_number e
+refusal_real TableFull = omega arith
+refusal_real NotHeld = omega arith
+refusal_real BadInput = omega arith
+refusal_real Malformed = omega arith
+refusal_real NotUtf8 = omega arith
+
+pub not_refused : (m : MqttMonitor) (topic : List ℕ) (t : ℕ) (e : Refusal) {o : Outlook} → o ≡ standing_in m topic → 0 < o.rate → told_left (Err e) ≡ left_in m topic t → ⊥
+not_refused m topic t e s h q =
+    let r = refusal_real e in
+    let n = ap (λ (l : Left). l.number) q in
+    let z = left_told m topic t (rw s at h) in
+    omega (arith, r, n, z)
 
 -- nothing goes out
 pub nothing_out : (write : Bool) (d : List ℕ) (at : ℕ) {t : List ℕ} → t ≡ [] → (at ≡ at + length t) × (d ≡ put_if write d at t)

@@ -305,5 +305,5 @@ overflow_cast-result-3 c =
 pub returns : goal.returns
 unfolding message7
 returns c = let h = ends
-    (rw (eq-eqb _ _ c.if-data-ne0.false, ← c.type_at-packet_type.ensures, ← c.qos_at-level.ensures) at
+    (rw (eq-eqb _ _ c.if-data-ne0.false, ← c.type_at.ensures, ← c.qos_at.ensures) at
     (left_payload (goal.at.returns c).After-hex_field-data)) refl in record { value = h.0; within = h.1.0; topic = h.1.1.0; payload = h.1.1.1 }

@@ -50,5 +50,5 @@ returns-then-rules-ne0 c = let h = ends
 pub returns : goal.returns
 unfolding opening2
 returns c = let h = ends
-    (rw (eq-eqb _ _ c.if-rules-ne0.false, ← c.action_at-default_action.ensures) at (left_rules (goal.at.returns c).After-number_field-rules)) refl in
+    (rw (eq-eqb _ _ c.if-rules-ne0.false, ← c.action_at.ensures) at (left_rules (goal.at.returns c).After-number_field-rules)) refl in
     record { value = h.0; within = h.1 }

@@ -9,13 +9,13 @@ use borrow.Author.Rules.{rules}
 use Rattle.trace.proofs.record.alert_len.Goals.{After-hex_line_len-hash}
 use Rattle.trace.proofs.record.alert_len.Goals as goal
 
-typed : (c : After-hex_line_len-hash) → Typed c.args.alert
+typed : (c : After-hex_line_len-hash) → Typed c.args.alert.now
 typed c = record { id64 = search rules; kind32 = search rules; hash32 = search rules }
 
 sum : (c : After-hex_line_len-hash) → let all = c.number_line_len-id.result + c.number_line_len-kind.result + c.number_line_len-level.result + c.hex_line_len-hash.result in
-    (all ≡ length (alert_text c.args.alert)) × (all ≤ 121)
+    (all ≡ length (alert_text c.args.alert.now)) × (all ≤ 121)
 sum c =
-    alert_sum _ (typed c) c.number_line_len-id.ensures c.number_line_len-kind.ensures c.severity_number-number.ensures
+    alert_sum _ (typed c) c.number_line_len-id.ensures (rw c.from.ensures at c.number_line_len-kind.ensures) c.severity_number-number.ensures
     c.number_line_len-level.ensures c.hex_line_len-hash.ensures
 
 pub overflow_add-result : goal.overflow_add-result

@@ -9,9 +9,9 @@ use Rattle.trace.proofs.record.closing_len.Goals.{After-number_line_len-alerts}
 use Rattle.trace.proofs.record.closing_len.Goals as goal
 
 sum : (c : After-number_line_len-alerts) → let all = c.number_line_len-end.result + c.number_line_len-last.result + c.number_line_len-messages.result + c.number_line_len-alerts.result in
-    (all ≡ length (closing_text c.args.number c.args.line c.args.inspected c.args.total)) × (all ≤ 109)
+    (all ≡ length (closing_text c.args.closing.now.number c.args.closing.now.line c.args.closing.now.inspected c.args.closing.now.total)) × (all ≤ 109)
 sum c =
-    closing_sum _ _ _ _ (omega arith) (omega arith) (omega arith) (omega arith) c.number_line_len-end.ensures c.number_line_len-last.ensures
+    closing_sum _ _ _ _ (omega arith) (omega arith) (omega arith) (omega arith) (rw c.from.ensures at c.number_line_len-end.ensures) c.number_line_len-last.ensures
     c.number_line_len-messages.ensures c.number_line_len-alerts.ensures
 
 pub overflow_add-result : goal.overflow_add-result

@@ -7,6 +7,6 @@ pub returns : goal.returns
 unfolding alert_text
 returns c =
     wrote_then
-    (wrote_then (wrote_then c.put_number_line-after_id.ensures c.put_number_line-after_kind.ensures)
+    (wrote_then (wrote_then c.put_number_line-after_id.ensures (rw c.from.ensures at c.put_number_line-after_kind.ensures))
     (rw c.severity_number-number.ensures at c.put_number_line-after_severity.ensures))
     c.put_hex_line.ensures

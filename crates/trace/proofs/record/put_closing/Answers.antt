@@ -7,5 +7,5 @@ pub returns : goal.returns
 unfolding closing_text
 returns c =
     wrote_then
-    (wrote_then (wrote_then c.put_number_line-after_end.ensures c.put_number_line-after_line.ensures) c.put_number_line-after_inspected.ensures)
+    (wrote_then (wrote_then (rw c.from.ensures at c.put_number_line-after_end.ensures) c.put_number_line-after_line.ensures) c.put_number_line-after_inspected.ensures)
     c.put_number_line.ensures

@@ -6,5 +6,5 @@ use Rattle.trace.proofs.record.put_record.Goals as goal
 pub returns : goal.returns
 unfolding record_text
 returns c =
-    wrote_then (wrote_then (wrote_then c.put_number_line-after_n.ensures c.put_flag_line-after_allowed.ensures) c.put_number_line-after_count.ensures)
-    c.put_alerts.ensures
+    wrote_then (wrote_then (wrote_then c.put_number_line-after_n.ensures c.put_flag_line-after_allowed.ensures) (rw c.from.ensures at c.put_number_line-after_count.ensures))
+    (rw c.first_alerts.ensures.first at c.put_alerts.ensures)

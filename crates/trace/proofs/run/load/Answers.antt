@@ -1,107 +1,35 @@
-use lib.Seq.{length-take-le}
-use mathlib.Core.List.{List}
-use mathlib.Core.Path.{◌≡◌, refl, sym}
-use Prim.Native.Nat.{ℕ, ◌-◌, ◌/◌, ◌≤◌, ◌<◌}
+use Prim.Native.Nat.{◌-◌}
+use mathlib.Core.Path.{◌≡◌}
 use native.Mathlib.Omega.{arith}
-use lib.ListN.{length, take}
-use Rattle.tables.proofs.rules.PlanLaws.{plan_place}
-use Rattle.rules_text.specs.RuleGroup.{pattern_in}
-use Rattle.rules_text.specs.declared.read.RuleLines.{RuleLines}
-use Rattle.trace.proofs.run.LoadLaws.{load_long, load_none, load_start, load_stop, load_refused, load_turn, load_end}
-use Rattle.rules_text.proofs.read.RuleLaws.{pattern_part}
-use Rattle.trace.proofs.run.load.Goals.{After-read_rule-rule, Else-plan-ne0, Else-rule-ne0}
+use Rattle.std.proofs.lemmas.Result.{err_from_is_err_and}
+use Rattle.monitor.specs.Calls.{fresh}
+use Rattle.trace.proofs.run.LoadLaws.{load_long, load_none, load_start, load_stop, load_turn, load_end}
 use Rattle.trace.proofs.run.load.Goals as goal
 
--- the text, and what was read of it
-abbrev text_at_Else_rule_ne0 : (c : Else-rule-ne0) → List ℕ
-text_at_Else_rule_ne0 c = c.args.text.now
-
-abbrev group_at_Else_rule_ne0 : (c : Else-rule-ne0) → RuleLines
-group_at_Else_rule_ne0 c = c.read_rule-rule.result
-
-abbrev group : (c : After-read_rule-rule) → RuleLines
-group c = c.read_rule-rule.result
-
--- lines are counted far below the largest number
-lines_small : (c : After-read_rule-rule) → (c.loop-left.line ≤ 130) × ((group c).line ≤ 3)
-lines_small c = (omega (arith, c.loop-left.invariant.0.short), c.read_rule-rule.ensures.within.line)
-
--- the rule's pattern is the first bytes of its buffer
-pattern_has : (c : Else-rule-ne0) → let buffer = c.read_rule-rule.new.pattern in
-    let long = ((group_at_Else_rule_ne0 c).pattern_to - (group_at_Else_rule_ne0 c).pattern_from) / 2 in
-    (take long buffer ≡ pattern_in (text_at_Else_rule_ne0 c) (group_at_Else_rule_ne0 c)) × (long ≤ length buffer) × (length buffer ≡ 128)
-pattern_has c =
-    pattern_part _ _ _ c.read_rule-rule.ensures.value c.if-rule-ne0.false c.loop-left.invariant.1 c.read_rule-rule.ensures.kept refl
-
--- a rule that is taken has a place in the table
-has_place : (c : Else-plan-ne0) → c.plan_rule-plan.result.at < 32
-has_place c = plan_place _ _ _ _ _ _ c.plan_rule-plan.ensures c.if-plan-ne0.false
-
 pub returns-then-text-gt-TEXT_MAX : goal.returns-then-text-gt-TEXT_MAX
-returns-then-text-gt-TEXT_MAX c = load_long _ c.if-text-gt-TEXT_MAX.true c.free_rules-rules.ensures
-
-pub overflow_cast-result : goal.overflow_cast-result
-overflow_cast-result c = omega (arith, c.read_opening-opening.ensures.within.line)
-
-pub overflow_add-result : goal.overflow_add-result
-overflow_add-result c = omega (arith, c.read_opening-opening.ensures.within.line)
+returns-then-text-gt-TEXT_MAX c = rw c.fresh.ensures (load_long _ _ c.if-text-gt-TEXT_MAX.true)
 
 pub returns-then-opening-ne0 : goal.returns-then-opening-ne0
+unfolding fresh
 returns-then-opening-ne0 c =
-    load_none _ c.if-text-gt-TEXT_MAX.false c.read_opening-opening.ensures.value c.if-opening-ne0.true c.free_rules-rules.ensures
+    rw (c.fresh.ensures, c.from.ensures) (load_none _ _ c.if-text-gt-TEXT_MAX.false c.read_opening-opening.ensures.value c.if-opening-ne0.true)
 
-pub loop-left-init : goal.loop-left-init
-loop-left-init c =
-    (load_start _ c.if-text-gt-TEXT_MAX.false c.read_opening-opening.ensures.value c.if-opening-ne0.false c.free_rules-rules.ensures, c.buffer_128-pattern.ensures)
+pub loop-rule-init : goal.loop-rule-init
+unfolding fresh
+loop-rule-init c =
+    let all : c.read_opening-opening.result.rules - 0 ≡ c.read_opening-opening.result.rules = omega arith in
+    rw (all, c.fresh.ensures) (load_start _ _ c.if-text-gt-TEXT_MAX.false c.read_opening-opening.ensures.value c.if-opening-ne0.false)
 
-pub overflow_add-result-then-rule-ne0 : goal.overflow_add-result-then-rule-ne0
-overflow_add-result-then-rule-ne0 c = omega (arith, lines_small (goal.at.overflow_add-result-then-rule-ne0 c).After-read_rule-rule)
+pub load_rule-requires : goal.load_rule-requires
+load_rule-requires c = record { formed = c.loop-rule.invariant.sound.formed; few = omega (arith, c.loop-rule.invariant.short) }
 
-pub overflow_cast-result-then-rule-ne0 : goal.overflow_cast-result-then-rule-ne0
-overflow_cast-result-then-rule-ne0 c = omega (arith, lines_small (goal.at.overflow_cast-result-then-rule-ne0 c).After-read_rule-rule)
+pub returns-in_err-place : goal.returns-in_err-place
+returns-in_err-place c =
+    let p = err_from_is_err_and c.from_residual.result c.from_residual.ensures.1 in
+    rw (p.1, p.2) (load_stop c.loop-rule.invariant (omega (arith, c.loop-rule-test.true)) c.in_err-place.field-0.0 c.in_err-place.ensures)
 
-pub overflow_add-result-then-rule-ne0-2 : goal.overflow_add-result-then-rule-ne0-2
-overflow_add-result-then-rule-ne0-2 c = omega (arith, lines_small (goal.at.overflow_add-result-then-rule-ne0-2 c).After-read_rule-rule)
-
-pub returns-then-rule-ne0 : goal.returns-then-rule-ne0
-returns-then-rule-ne0 c =
-    load_stop c.loop-left.invariant.0 c.loop-left-test.true c.read_rule-rule.ensures.value c.if-rule-ne0.true
-
-pub overflow_sub-n : goal.overflow_sub-n
-overflow_sub-n c = omega (arith, c.read_rule-rule.ensures.within.ordered)
-
-pub slice_bounds-pattern-end : goal.slice_bounds-pattern-end
-slice_bounds-pattern-end c = (pattern_has (goal.at.slice_bounds-pattern-end c).Else-rule-ne0).1
-
-pub slice_bounds-plan_rule-end : goal.slice_bounds-plan_rule-end
-slice_bounds-plan_rule-end c = sym (length-take-le _ _ (pattern_has (goal.at.slice_bounds-plan_rule-end c).Else-rule-ne0).1)
-
-pub overflow_add-line : goal.overflow_add-line
-overflow_add-line c = omega (arith, lines_small (goal.at.overflow_add-line c).After-read_rule-rule)
-
-pub overflow_sub-left : goal.overflow_sub-left
-overflow_sub-left c = omega (arith, c.loop-left-test.true)
-
-pub returns-then-plan-ne0 : goal.returns-then-plan-ne0
-returns-then-plan-ne0 c =
-    load_refused c.loop-left.invariant.0 c.loop-left-test.true c.read_rule-rule.ensures.value c.if-rule-ne0.false (pattern_has (goal.at.returns-then-plan-ne0 c).Else-rule-ne0).0
-    c.plan_rule-plan.ensures c.if-plan-ne0.true
-
-pub offset_bounds-rules-place : goal.offset_bounds-rules-place
-offset_bounds-rules-place c = omega (arith, has_place (goal.at.offset_bounds-rules-place c).Else-plan-ne0)
-
-pub bounds-rules-place : goal.bounds-rules-place
-bounds-rules-place c = has_place (goal.at.bounds-rules-place c).Else-plan-ne0
-
-pub loop-left-smaller : goal.loop-left-smaller
-loop-left-smaller c = omega (arith, c.loop-left-test.true)
-
-pub loop-left-preserved : goal.loop-left-preserved
-loop-left-preserved c = (
-  load_turn c.loop-left.invariant.0 c.loop-left-test.true c.read_rule-rule.ensures.value c.if-rule-ne0.false (pattern_has (goal.at.loop-left-preserved c).Else-rule-ne0).0
-      c.plan_rule-plan.ensures c.if-plan-ne0.false,
-  (pattern_has (goal.at.loop-left-preserved c).Else-rule-ne0).2,
-)
+pub loop-rule-preserved : goal.loop-rule-preserved
+loop-rule-preserved c = load_turn c.loop-rule.invariant (omega (arith, c.loop-rule-test.true)) c.in_ok-place.ensures (omega (arith, c.loop-rule-test.true))
 
 pub returns : goal.returns
-returns c = load_end c.loop-left.invariant.0 (omega (arith, c.loop-left-test.false))
+returns c = load_end c.loop-rule.invariant (omega (arith, c.loop-rule-test.false))

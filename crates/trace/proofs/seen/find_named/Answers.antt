@@ -1,9 +1,8 @@
 use Prim.Native.Nat.{ℕ, ◌≤◌}
 use mathlib.Core.List.{List}
-use mathlib.Core.Path.{◌≡◌, refl, sym, ◌∙◌}
+use mathlib.Core.Path.{◌≡◌, refl, ◌∙◌}
 use native.Mathlib.Omega.{arith}
 use lib.ListN.{length, take}
-use lib.Seq.{length-take-le}
 use Rattle.trace.specs.Groups.{topic_in}
 use Rattle.trace.specs.declared.groups.MessageLines.{MessageLines}
 use Rattle.trace.proofs.run.BufferLaws.{topic_part, payload_part}
@@ -44,18 +43,15 @@ returns-then-group-ne0 c = record {
   long = c.loop-p.invariant.3;
 }
 
-pub slice_bounds-topic-end : goal.slice_bounds-topic-end
-slice_bounds-topic-end c = (topic_has (goal.at.slice_bounds-topic-end c).Else-group-ne0).1
-
-pub slice_bounds-id_of-end : goal.slice_bounds-id_of-end
-slice_bounds-id_of-end c = sym (length-take-le _ _ (topic_has (goal.at.slice_bounds-id_of-end c).Else-group-ne0).1)
+pub topic-requires : goal.topic-requires
+topic-requires c = c.read_message-group.ensures.within.topic_long.1
 
 pub returns-then-is_of : goal.returns-then-is_of
 returns-then-is_of c = let has = topic_has (goal.at.returns-then-is_of c).Else-group-ne0 in record {
-  named = named_here _ _ c.loop-p-test.true c.read_message-group.ensures.value c.if-group-ne0.false has.0 c.id_of-id.ensures c.is_of.ensures
+  named = rw (c.from.ensures, ← c.topic.ensures) (named_here _ _ c.loop-p-test.true c.read_message-group.ensures.value c.if-group-ne0.false (c.topic.ensures ∙ has.0) c.of.ensures c.is_of.ensures
       c.if-is_of.true
-      ∙ c.loop-p.invariant.0;
-  short = omega (arith, has.1, has.2);
+      ∙ c.loop-p.invariant.0);
+  short = omega (arith, c.from.ensures, has.1, has.2);
   long = λ h. has.2;
 }
 
@@ -65,7 +61,7 @@ loop-p-smaller c =
 
 pub loop-p-preserved : goal.loop-p-preserved
 loop-p-preserved c = (
-  named_further _ _ c.loop-p-test.true c.read_message-group.ensures.value c.if-group-ne0.false (topic_has (goal.at.loop-p-preserved c).Else-group-ne0).0 c.id_of-id.ensures
+  named_further _ _ c.loop-p-test.true c.read_message-group.ensures.value c.if-group-ne0.false (c.topic.ensures ∙ (topic_has (goal.at.loop-p-preserved c).Else-group-ne0).0) c.of.ensures
       c.is_of.ensures c.if-is_of.false
       ∙ c.loop-p.invariant.0,
   (topic_has (goal.at.loop-p-preserved c).Else-group-ne0).2,
@@ -74,4 +70,4 @@ loop-p-preserved c = (
 )
 
 pub returns : goal.returns
-returns c = record { named = named_end (text (goal.at.returns c).At-loop-p) c.args.held c.loop-p-test.false ∙ c.loop-p.invariant.0; short = omega arith; long = c.loop-p.invariant.3 }
+returns c = record { named = named_end (text (goal.at.returns c).At-loop-p) c.args.held.now c.loop-p-test.false ∙ c.loop-p.invariant.0; short = omega arith; long = c.loop-p.invariant.3 }

@@ -1,9 +1,8 @@
 use Prim.Native.Nat.{ℕ, ◌≤◌}
 use mathlib.Core.List.{List}
-use mathlib.Core.Path.{◌≡◌, refl, sym, ◌∙◌}
+use mathlib.Core.Path.{◌≡◌, refl, ◌∙◌}
 use native.Mathlib.Omega.{arith}
 use lib.ListN.{length, take}
-use lib.Seq.{length-take-le}
 use Rattle.trace.specs.Groups.{topic_in}
 use Rattle.trace.specs.declared.groups.MessageLines.{MessageLines}
 use Rattle.trace.proofs.run.BufferLaws.{topic_part, payload_part}
@@ -41,15 +40,12 @@ pub returns-then-group-ne0 : goal.returns-then-group-ne0
 returns-then-group-ne0 c =
     publish_stop _ _ c.loop-p-test.true c.read_message-group.ensures.value c.if-group-ne0.true ∙ c.loop-p.invariant.0
 
-pub slice_bounds-name-end : goal.slice_bounds-name-end
-slice_bounds-name-end c = (name_has (goal.at.slice_bounds-name-end c).Else-group-ne0).1
-
-pub slice_bounds-names-end : goal.slice_bounds-names-end
-slice_bounds-names-end c = sym (length-take-le _ _ (name_has (goal.at.slice_bounds-names-end c).Else-group-ne0).1)
+pub topic-requires : goal.topic-requires
+topic-requires c = c.read_message-group.ensures.within.topic_long.1
 
 pub returns-then-names : goal.returns-then-names
 returns-then-names c =
-    publish_here _ _ c.loop-p-test.true c.read_message-group.ensures.value c.if-group-ne0.false (name_has (goal.at.returns-then-names c).Else-group-ne0).0 c.names.ensures c.if-names.true
+    publish_here _ _ c.loop-p-test.true c.read_message-group.ensures.value c.if-group-ne0.false (c.topic.ensures ∙ (name_has (goal.at.returns-then-names c).Else-group-ne0).0) c.names.ensures c.if-names.true
     ∙ c.loop-p.invariant.0
 
 pub loop-p-smaller : goal.loop-p-smaller
@@ -58,7 +54,7 @@ loop-p-smaller c =
 
 pub loop-p-preserved : goal.loop-p-preserved
 loop-p-preserved c = (
-  publish_further _ _ c.loop-p-test.true c.read_message-group.ensures.value c.if-group-ne0.false (name_has (goal.at.loop-p-preserved c).Else-group-ne0).0 c.names.ensures c.if-names.false
+  publish_further _ _ c.loop-p-test.true c.read_message-group.ensures.value c.if-group-ne0.false (c.topic.ensures ∙ (name_has (goal.at.loop-p-preserved c).Else-group-ne0).0) c.names.ensures c.if-names.false
       ∙ c.loop-p.invariant.0,
   (name_has (goal.at.loop-p-preserved c).Else-group-ne0).2,
   payload_long (goal.at.loop-p-preserved c).Else-group-ne0,

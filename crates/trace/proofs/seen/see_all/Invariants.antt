@@ -8,7 +8,7 @@ use Rattle.trace.proofs.seen.see_all.Given as goal
 
 abbrev pub invariant-loop-at : goal.invariant-loop-at
 invariant-loop-at l =
-    Seeing l.initial.m.matching l.text l.m l.last l.at l.line × (length l.topic ≡ 128) × (length l.payload ≡ 256)
+    Seeing l.fn.matching l.text l.m l.last l.at l.line × (length l.topic ≡ 128) × (length l.payload ≡ 256)
 
 abbrev pub decreases-loop-at : goal.decreases-loop-at
 decreases-loop-at l = length l.text - l.at

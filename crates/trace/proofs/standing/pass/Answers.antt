@@ -16,28 +16,28 @@ use Rattle.trace.proofs.standing.pass.Goals.{After-pass_head-places, After-pass_
 use Rattle.trace.proofs.standing.pass.Goals as goal
 
 abbrev buckets_at_After_pass_new_topics : (c : After-pass_new-topics) → List RateBucket
-buckets_at_After_pass_new_topics c = c.args.seen.monitor.rate_buckets
+buckets_at_After_pass_new_topics c = c.args.seen.now.monitor.rate_buckets
 
 abbrev buckets_at_After_pass_places_new : (c : After-pass_places-new) → List RateBucket
-buckets_at_After_pass_places_new c = c.args.seen.monitor.rate_buckets
+buckets_at_After_pass_places_new c = c.args.seen.now.monitor.rate_buckets
 
 abbrev buckets_at_After_pass_head_places : (c : After-pass_head-places) → List RateBucket
-buckets_at_After_pass_head_places c = c.args.seen.monitor.rate_buckets
+buckets_at_After_pass_head_places c = c.args.seen.now.monitor.rate_buckets
 
 abbrev buckets : (c : After-taken) → List RateBucket
-buckets c = c.args.seen.monitor.rate_buckets
+buckets c = c.args.seen.now.monitor.rate_buckets
 
 abbrev last_at_After_pass_new_topics : (c : After-pass_new-topics) → ℕ
-last_at_After_pass_new_topics c = c.args.seen.last
+last_at_After_pass_new_topics c = c.args.seen.now.last
 
 abbrev last_at_After_pass_places_new : (c : After-pass_places-new) → ℕ
-last_at_After_pass_places_new c = c.args.seen.last
+last_at_After_pass_places_new c = c.args.seen.now.last
 
 abbrev last_at_After_pass_head_places : (c : After-pass_head-places) → ℕ
-last_at_After_pass_head_places c = c.args.seen.last
+last_at_After_pass_head_places c = c.args.seen.now.last
 
 abbrev last : (c : After-taken) → ℕ
-last c = c.args.seen.last
+last c = c.args.seen.now.last
 
 abbrev head_at_After_pass_new_topics : (c : After-pass_new-topics) → List ℕ
 head_at_After_pass_new_topics c = number_line (bytes "last=") (last_at_After_pass_new_topics c) ++ number_line (bytes "taken=") (taken_in (buckets_at_After_pass_new_topics c))
@@ -52,16 +52,16 @@ abbrev head : (c : After-taken) → List ℕ
 head c = number_line (bytes "last=") (last c) ++ number_line (bytes "taken=") (taken_in (buckets c))
 
 abbrev places_at_After_pass_new_topics : (c : After-pass_new-topics) → List ℕ
-places_at_After_pass_new_topics c = places_text (sent_from c.args.text.now c.args.seen.first) (oldest_first 32 (buckets_at_After_pass_new_topics c))
+places_at_After_pass_new_topics c = places_text (sent_from c.args.text.now c.args.seen.now.first) (oldest_first 32 (buckets_at_After_pass_new_topics c))
 
 abbrev places_at_After_pass_places_new : (c : After-pass_places-new) → List ℕ
-places_at_After_pass_places_new c = places_text (sent_from c.args.text.now c.args.seen.first) (oldest_first 32 (buckets_at_After_pass_places_new c))
+places_at_After_pass_places_new c = places_text (sent_from c.args.text.now c.args.seen.now.first) (oldest_first 32 (buckets_at_After_pass_places_new c))
 
 abbrev places_at_After_pass_head_places : (c : After-pass_head-places) → List ℕ
-places_at_After_pass_head_places c = places_text (sent_from c.args.text.now c.args.seen.first) (oldest_first 32 (buckets_at_After_pass_head_places c))
+places_at_After_pass_head_places c = places_text (sent_from c.args.text.now c.args.seen.now.first) (oldest_first 32 (buckets_at_After_pass_head_places c))
 
 abbrev places : (c : After-taken) → List ℕ
-places c = places_text (sent_from c.args.text.now c.args.seen.first) (oldest_first 32 (buckets c))
+places c = places_text (sent_from c.args.text.now c.args.seen.now.first) (oldest_first 32 (buckets c))
 
 abbrev new_at_After_pass_new_topics : (c : After-pass_new-topics) → List ℕ
 new_at_After_pass_new_topics c = opening_text (bytes "new=") (last_at_After_pass_new_topics c) (opening_new (buckets_at_After_pass_new_topics c))
@@ -76,28 +76,28 @@ abbrev new : (c : After-taken) → List ℕ
 new c = opening_text (bytes "new=") (last c) (opening_new (buckets c))
 
 abbrev topics_at_After_pass_new_topics : (c : After-pass_new-topics) → List ℕ
-topics_at_After_pass_new_topics c = topics_text c.args.seen.monitor (last_at_After_pass_new_topics c) (sent_from c.args.text.now c.args.seen.first)
+topics_at_After_pass_new_topics c = topics_text c.args.seen.now.monitor (last_at_After_pass_new_topics c) (sent_from c.args.text.now c.args.seen.now.first)
 
 abbrev topics_at_After_pass_places_new : (c : After-pass_places-new) → List ℕ
-topics_at_After_pass_places_new c = topics_text c.args.seen.monitor (last_at_After_pass_places_new c) (sent_from c.args.text.now c.args.seen.first)
+topics_at_After_pass_places_new c = topics_text c.args.seen.now.monitor (last_at_After_pass_places_new c) (sent_from c.args.text.now c.args.seen.now.first)
 
 abbrev topics_at_After_pass_head_places : (c : After-pass_head-places) → List ℕ
-topics_at_After_pass_head_places c = topics_text c.args.seen.monitor (last_at_After_pass_head_places c) (sent_from c.args.text.now c.args.seen.first)
+topics_at_After_pass_head_places c = topics_text c.args.seen.now.monitor (last_at_After_pass_head_places c) (sent_from c.args.text.now c.args.seen.now.first)
 
 abbrev topics : (c : After-taken) → List ℕ
-topics c = topics_text c.args.seen.monitor (last c) (sent_from c.args.text.now c.args.seen.first)
+topics c = topics_text c.args.seen.now.monitor (last c) (sent_from c.args.text.now c.args.seen.now.first)
 
 abbrev all_at_After_pass_new_topics : (c : After-pass_new-topics) → List ℕ
-all_at_After_pass_new_topics c = standing_lines c.args.seen.monitor (last_at_After_pass_new_topics c) (sent_from c.args.text.now c.args.seen.first)
+all_at_After_pass_new_topics c = standing_lines c.args.seen.now.monitor (last_at_After_pass_new_topics c) (sent_from c.args.text.now c.args.seen.now.first)
 
 abbrev all_at_After_pass_places_new : (c : After-pass_places-new) → List ℕ
-all_at_After_pass_places_new c = standing_lines c.args.seen.monitor (last_at_After_pass_places_new c) (sent_from c.args.text.now c.args.seen.first)
+all_at_After_pass_places_new c = standing_lines c.args.seen.now.monitor (last_at_After_pass_places_new c) (sent_from c.args.text.now c.args.seen.now.first)
 
 abbrev all_at_After_pass_head_places : (c : After-pass_head-places) → List ℕ
-all_at_After_pass_head_places c = standing_lines c.args.seen.monitor (last_at_After_pass_head_places c) (sent_from c.args.text.now c.args.seen.first)
+all_at_After_pass_head_places c = standing_lines c.args.seen.now.monitor (last_at_After_pass_head_places c) (sent_from c.args.text.now c.args.seen.now.first)
 
 abbrev all : (c : After-taken) → List ℕ
-all c = standing_lines c.args.seen.monitor (last c) (sent_from c.args.text.now c.args.seen.first)
+all c = standing_lines c.args.seen.now.monitor (last c) (sent_from c.args.text.now c.args.seen.now.first)
 
 parts_at_After_pass_new_topics : (c : After-pass_new-topics) → (all_at_After_pass_new_topics c) ≡ (head_at_After_pass_new_topics c) ++
     ((places_at_After_pass_new_topics c) ++ ((new_at_After_pass_new_topics c) ++ (topics_at_After_pass_new_topics c)))

@@ -1,4 +1,6 @@
 -- `trace::standing::pass_topic` meets its contract: the lines stand at the beginning of their own buffer, and go out from there. Assumes nothing.
+use Rattle.std.specs.Prelude.{Ok}
+use Rattle.monitor.specs.Standing.{told_outlook, told_left}
 use mathlib.Core.List.{List}
 use mathlib.Core.Path.{◌≡◌, sym}
 use Prim.Native.Nat.{ℕ, ◌≤◌}
@@ -11,7 +13,7 @@ use Rattle.trace.proofs.standing.pass_topic.Goals.{After-put_topic-n}
 use Rattle.trace.proofs.standing.pass_topic.Goals as goal
 
 abbrev text : (c : After-put_topic-n) → List ℕ
-text c = let given = c.args in topic_text given.topic.now given.outlook given.left given.last
+text c = let given = c.args in topic_text given.topic.now (told_outlook (Ok given.outlook.now)) (told_left (Ok given.left.now)) given.last
 
 short : (c : After-put_topic-n) → length (text c) ≤ 490
 short c = c.put_topic-n.ensures.short c.requires.short

@@ -1,6 +1,6 @@
 use Prim.Native.Nat.{ℕ, ◌+◌, ◌≤◌}
 use mathlib.Core.List.{List, ◌++◌}
-use mathlib.Core.Path.{◌≡◌, sym}
+use mathlib.Core.Path.{◌≡◌, ap}
 use native.Mathlib.Omega.{arith}
 use lib.Dec.{ltb}
 use lib.ListN.{length, take}
@@ -54,19 +54,19 @@ payload_long c =
 abbrev part : (c : Else-group-ne0) → List ℕ
 part c =
     let given = c.args in
-    message_text given.m given.last (group_at_Else_group_ne0 c).msg.packet_type (take (group_at_Else_group_ne0 c).msg.topic_len c.read_message-group.new.topic)
+    message_text given.m.now given.last (group_at_Else_group_ne0 c).msg.packet_type (take (group_at_Else_group_ne0 c).msg.topic_len c.read_message-group.new.topic)
     (sent_from (text_at_Else_group_ne0 c) (group_at_Else_group_ne0 c).next)
 
 abbrev further : (c : Else-group-ne0) → List ℕ
 further c =
     let given = c.args in
-    topics_text given.m given.last (sent_from (text_at_Else_group_ne0 c) (group_at_Else_group_ne0 c).next)
+    topics_text given.m.now given.last (sent_from (text_at_Else_group_ne0 c) (group_at_Else_group_ne0 c).next)
 
 here : (c : Else-group-ne0) → let given = c.args in
-    topics_text given.m given.last (sent_from (text_at_Else_group_ne0 c) c.loop-q.q) ≡ part c ++ further c
+    topics_text given.m.now given.last (sent_from (text_at_Else_group_ne0 c) c.loop-q.q) ≡ part c ++ further c
 here c =
     let given = c.args in
-    topics_turn given.m given.last (text_at_Else_group_ne0 c) c.loop-q-test.true c.read_message-group.ensures.value c.if-group-ne0.false (topic_has c).0
+    topics_turn given.m.now given.last (text_at_Else_group_ne0 c) c.loop-q-test.true c.read_message-group.ensures.value c.if-group-ne0.false (topic_has c).0
 
 pub loop-q-init : goal.loop-q-init
 loop-q-init c = (passing_start _ _ _ _, omega arith, omega arith, omega arith, c.buffer_128-topic.ensures, c.buffer_256-payload.ensures)
@@ -76,29 +76,27 @@ shape_of-out-then-group-ne0 c = c.loop-q.invariant.0.long
 
 pub returns-then-group-ne0 : goal.returns-then-group-ne0
 returns-then-group-ne0 c = let given = c.args in
-    let none = topics_stop given.m given.last (text (goal.at.returns-then-group-ne0 c).At-loop-q) c.loop-q-test.true
+    let none = topics_stop given.m.now given.last (text (goal.at.returns-then-group-ne0 c).At-loop-q) c.loop-q-test.true
     c.read_message-group.ensures.value c.if-group-ne0.true in
     record
     { next = (passing_done c.loop-q.invariant.0 none, small (goal.at.returns-then-group-ne0 c).At-loop-q); bytes = passing_bytes c.loop-q.invariant.0 none }
 
-pub slice_bounds-topic-end : goal.slice_bounds-topic-end
-slice_bounds-topic-end c = (topic_has (goal.at.slice_bounds-topic-end c).Else-group-ne0).1
-
-pub slice_bounds-pass_message-end : goal.slice_bounds-pass_message-end
-slice_bounds-pass_message-end c = sym (length-take-le _ _ (topic_has (goal.at.slice_bounds-pass_message-end c).Else-group-ne0).1)
+pub topic-requires : goal.topic-requires
+topic-requires c = c.read_message-group.ensures.within.topic_long.1
 
 pub pass_message-p-requires : goal.pass_message-p-requires
 pass_message-p-requires c = record {
   small = omega (arith, small (goal.at.pass_message-p-requires c).At-loop-q, c.requires.small);
   short = omega (
     arith,
+    ap length c.topic.ensures,
     length-take-le (group (goal.at.pass_message-p-requires c).After-read_message-group).msg.topic_len c.read_message-group.new.topic
         (topic_has (goal.at.pass_message-p-requires c).Else-group-ne0).1,
     (topic_has (goal.at.pass_message-p-requires c).Else-group-ne0).1,
     (topic_has (goal.at.pass_message-p-requires c).Else-group-ne0).2,
   );
-  room = passing_room c.loop-q.invariant.0 (part (goal.at.pass_message-p-requires c).Else-group-ne0)
-      (further (goal.at.pass_message-p-requires c).Else-group-ne0) (here (goal.at.pass_message-p-requires c).Else-group-ne0) c.requires.room;
+  room = rw c.topic.ensures (passing_room c.loop-q.invariant.0 (part (goal.at.pass_message-p-requires c).Else-group-ne0)
+      (further (goal.at.pass_message-p-requires c).Else-group-ne0) (here (goal.at.pass_message-p-requires c).Else-group-ne0) c.requires.room);
 }
 
 pub loop-q-smaller : goal.loop-q-smaller
@@ -107,10 +105,11 @@ loop-q-smaller c =
 
 pub loop-q-preserved : goal.loop-q-preserved
 loop-q-preserved c =
-    let f = read_further (text (goal.at.loop-q-preserved c).At-loop-q) c.loop-q.q c.read_message-group.ensures.value c.if-group-ne0.false in (
+    let f = read_further (text (goal.at.loop-q-preserved c).At-loop-q) c.loop-q.q c.read_message-group.ensures.value c.if-group-ne0.false in
+    let e = rw c.topic.ensures at c.pass_message-p.ensures in (
       passing_turn c.loop-q.invariant.0 (part (goal.at.loop-q-preserved c).Else-group-ne0) (further (goal.at.loop-q-preserved c).Else-group-ne0)
-          (here (goal.at.loop-q-preserved c).Else-group-ne0) c.requires.room c.pass_message-p.ensures.next.0 c.pass_message-p.ensures.bytes,
-      omega (arith, c.loop-q.invariant.1, c.pass_message-p.ensures.next.1, f),
+          (here (goal.at.loop-q-preserved c).Else-group-ne0) c.requires.room e.next.0 e.bytes,
+      omega (arith, c.loop-q.invariant.1, e.next.1, f),
       omega (arith, c.loop-q.invariant.2, f),
       omega (arith, c.read_message-group.ensures.within.after),
       (topic_has (goal.at.loop-q-preserved c).Else-group-ne0).2,
@@ -121,5 +120,5 @@ pub shape_of-out : goal.shape_of-out
 shape_of-out c = c.loop-q.invariant.0.long
 
 pub returns : goal.returns
-returns c = let given = c.args in let none = topics_end given.m given.last (text (goal.at.returns c).At-loop-q) c.loop-q-test.false in
+returns c = let given = c.args in let none = topics_end given.m.now given.last (text (goal.at.returns c).At-loop-q) c.loop-q-test.false in
     record { next = (passing_done c.loop-q.invariant.0 none, small (goal.at.returns c).At-loop-q); bytes = passing_bytes c.loop-q.invariant.0 none }
