@@ -19,7 +19,7 @@ use Rattle.monitor.specs.Message.{type_number}
 use Rattle.monitor.specs.Plan.{plan_of}
 use Rattle.monitor.specs.Runs.{Call, Exact, shipped, after_by, replies_by}
 use Rattle.monitor.specs.State.{well_formed, matcher_of}
-use Rattle.monitor.specs.declared.inspection.Inspected.{Inspected}
+use Rattle.monitor.specs.Ended.{Inspected}
 use Rattle.monitor.specs.declared.plan.Plan.{Plan}
 use Rattle.monitor.specs.declared.state.MqttMonitor.{MqttMonitor}
 use Rattle.monitor.proofs.Replies.{shipped_done, done_formed}
