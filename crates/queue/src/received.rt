@@ -1,13 +1,11 @@
 // A packet of a run where it stands, and what the monitor decides of one of its messages.
 ghost use Rattle.std.specs.Prelude.{◌≡◌, Ok};
-ghost use Rattle.monitor.specs.Inspect.{result_of};
 ghost use Rattle.monitor.specs.Plan.{plan_of};
 ghost use Rattle.monitor.specs.State.{matcher_of};
 ghost use Rattle.packets.specs.Messages.{message_told, message_at};
 ghost use Rattle.packets.specs.Taken.{call_of, topic_bytes, payload_bytes, Within};
 ghost use Rattle.queue.specs.Several.{book_of, light_for};
 
-use monitor::alerts::MqttInspectResult;
 use monitor::plan::{Plan, plan_light};
 use monitor::state::MqttMonitor;
 use packets::messages::{PacketMessage, message_at};
@@ -68,17 +66,6 @@ impl<'a> Received<'a> {
         ensures { result ≡ light_for (book_of m.now) next_id total (call_of self.now.bytes.now (message_told (Ok message.now))) }
     {
         let gate = m.gate_for(&message.msg, self.topic(message));
-        plan_light(gate, message.msg, self.payload(message), next_id, total)
-    }
-}
-
-// A plan's result.
-pub(crate) fn result_of(plan: &Plan) -> MqttInspectResult
-    ensures { result ≡ result_of plan.now }
-{
-    MqttInspectResult {
-        allowed: plan.allowed,
-        alert_count: plan.raised.count,
-        alerts: plan.raised.alerts,
+        plan_light(gate, &message.msg, self.payload(message), next_id, total)
     }
 }

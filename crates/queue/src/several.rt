@@ -11,7 +11,7 @@ ghost use Rattle.queue.specs.Refusal.{queue_number};
 ghost use Rattle.queue.specs.Several.{book_of, light_text};
 ghost use Rattle.queue.specs.Turn.{IsRead, Written, Unwritten};
 
-use crate::received::{Received, result_of};
+use crate::received::Received;
 use crate::refusal::QueueRefusal;
 use monitor::state::MqttMonitor;
 use packets::refusal::PacketRefusal;
@@ -38,7 +38,7 @@ fn check_room(
     for k in n..n + received.packet.messages as u64 {
         let message = received.message(step)?;
         let plan = received.plan_light(m, &message, next_id, total);
-        let need = record_len(k, result_of(&plan));
+        let need = record_len(k, &plan.result());
         if left < need {
             return Err(QueueRefusal::NoRoom);
         }
@@ -70,7 +70,7 @@ fn put_messages(
     for k in n..n + received.packet.messages as u64 {
         let message = received.message(step)?;
         let plan = received.plan(m, &message);
-        end = put_record(out, end, k, result_of(&plan));
+        end = put_record(out, end, k, &plan.result());
         m.apply(&plan);
         step = message.next;
     }
@@ -114,12 +114,12 @@ pub(crate) fn put_one(
 {
     let message = received.message(received.packet.first)?;
     let plan = received.plan(m, &message);
-    let result_here = result_of(&plan);
+    let record = plan.result();
     let room = out.len() - at;
-    let need = record_len(n, result_here);
+    let need = record_len(n, &record);
     if room < need {
         return Err(QueueRefusal::NoRoom);
     }
     m.apply(&plan);
-    Ok(put_record(out, at, n, result_here))
+    Ok(put_record(out, at, n, &record))
 }

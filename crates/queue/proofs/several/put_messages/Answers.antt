@@ -48,7 +48,7 @@ loop-k-preserved c =
     record {
       good = taken_next _ _ _ _ _ _ q i.good e;
       formed = rw c.apply.ensures (formed_turn _ _ _ _ _ _ q i.good e l.m i.formed f);
-      going = rw c.apply.ensures (going_turn _ _ _ _ _ _ q i.good e l.m i.formed f l.k i.going (rw c.result_of.ensures at c.put_record-end.ensures));
+      going = rw c.apply.ensures (going_turn _ _ _ _ _ _ q i.good e l.m i.formed f l.k i.going (rw c.result.ensures at c.put_record-end.ensures));
       state = rw c.apply.ensures (sym (state_turn _ _ _ _ _ _ q i.good e l.m i.formed f) ∙ i.state);
     }
 

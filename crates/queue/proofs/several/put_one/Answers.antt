@@ -18,7 +18,7 @@ returns-then-room-need-clause-unwritten c =
     let r = c.args.received.now in
     let t = one_records r.bytes.now r.place r.now_us r.ok c.requires.read c.requires.one (rw c.in_ok-message.was at c.message.ensures) c.args.m.now c.requires.formed c.plan-plan.ensures c.args.n in
     let l = ap length t in
-    record { number = refl; full = omega (arith, l, c.if-room-need.true, rw c.result_of-result_here.ensures at c.record_len-need.ensures.0); state = refl; buffer = refl }
+    record { number = refl; full = omega (arith, l, c.if-room-need.true, rw c.result-record.ensures at c.record_len-need.ensures.0); state = refl; buffer = refl }
 
 pub returns-clause-written : goal.returns-clause-written
 returns-clause-written c =
@@ -27,7 +27,7 @@ returns-clause-written c =
     let t = one_records r.bytes.now r.place r.now_us r.ok c.requires.read c.requires.one e c.args.m.now c.requires.formed c.plan-plan.ensures c.args.n in
     let l = ap length t in
     record {
-      fits = omega (arith, l, c.if-room-need.false, rw c.result_of-result_here.ensures at c.record_len-need.ensures.0);
-      wrote = rw t (rw c.result_of-result_here.ensures at c.put_record.ensures);
+      fits = omega (arith, l, c.if-room-need.false, rw c.result-record.ensures at c.record_len-need.ensures.0);
+      wrote = rw t (rw c.result-record.ensures at c.put_record.ensures);
       state = c.apply.ensures ∙ sym (one_state r.bytes.now r.place r.now_us r.ok c.requires.read c.requires.one e c.args.m.now c.requires.formed c.plan-plan.ensures);
     }

@@ -1,0 +1,6 @@
+-- `lines_run::run` ends. The measure: the bytes that are left. Assumes nothing.
+use lib.ListN.{length}
+use Rattle.lines_run.proofs.run.Given as goal
+
+abbrev pub decreases-loop-left : goal.decreases-loop-left
+decreases-loop-left l = length l.left
