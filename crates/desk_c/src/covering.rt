@@ -4,7 +4,6 @@ ghost use Rattle.desk.specs.Covering.{pair_covers, pair_witness};
 
 use desk::covering::PairWitness;
 
-// Whether the earlier pattern matches every name that the later one matches: 1 yes, 0 no, else the number that refuses a pattern.
 #[unsafe(no_mangle)]
 pub extern "C" fn hub_covers(earlier: &[u8], later: &[u8], standard: bool) -> u32
     ensures { result ≡ pair_covers standard earlier.now later.now }
@@ -12,7 +11,6 @@ pub extern "C" fn hub_covers(earlier: &[u8], later: &[u8], standard: bool) -> u3
     desk::covering::hub_covers(earlier, later, standard)
 }
 
-// A name that the later pattern matches and the earlier does not.
 #[unsafe(no_mangle)]
 pub extern "C" fn hub_witness(earlier: &[u8], later: &[u8], standard: bool) -> PairWitness
     ensures { result ≡ pair_witness standard earlier.now later.now }
