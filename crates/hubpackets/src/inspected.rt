@@ -2,17 +2,19 @@
 ghost use Rattle.std.specs.Prelude.{◌≡◌, length, take};
 ghost use Rattle.io.specs.Counts.{IsPrefixLen};
 ghost use Rattle.streams.specs.Turns.{DoneWithin};
+ghost use Rattle.settings.specs.Refused.{load_told};
 ghost use Rattle.hubpackets.specs.Inspected.{loaded_from, end_to, records_to};
 
 use monitor::state::MqttMonitor;
 use queue::run::{QueueEnd, run_packets};
-use settings::load::{LoadedSettings, load_settings};
+use settings::load::{Loaded, load_settings};
+use settings::refusal::Refused;
 use streams::turn::Done;
 
 // The settings text that was read, loaded.
-pub(crate) fn load_read(read: Done, text: &[u8]) -> LoadedSettings
+pub(crate) fn load_read(read: Done, text: &[u8]) -> Result<Loaded, Refused>
     requires { DoneWithin read (length text.now) }
-    ensures { result ≡ loaded_from read text.now }
+    ensures { load_told result ≡ loaded_from read text.now }
 {
     let Done::Bytes(n) = read else {
         return load_settings(b"");
