@@ -31,14 +31,20 @@ fn main() {
     let mut other = buffer();
     let n = io::read_full(STDIN_FILENO, &mut one);
     let k = io::read_full(STDIN_FILENO, &mut other);
-    let a = load_settings(upto(&one, n));
-    let b = load_settings(upto(&other, k));
-    let m = a.monitor;
-    let p = b.monitor;
-    let v = write_settings(m, 1, &mut one);
-    let w = write_settings(p, 1, &mut other);
-    io::write_all(STDOUT_FILENO, upto(&one, v.length));
-    io::write_all(STDOUT_FILENO, upto(&other, w.length));
+    let Ok(a) = load_settings(upto(&one, n)) else {
+        return;
+    };
+    let Ok(b) = load_settings(upto(&other, k)) else {
+        return;
+    };
+    let Ok(v) = write_settings(&a.monitor, 1, &mut one) else {
+        return;
+    };
+    let Ok(w) = write_settings(&b.monitor, 1, &mut other) else {
+        return;
+    };
+    io::write_all(STDOUT_FILENO, upto(&one, v));
+    io::write_all(STDOUT_FILENO, upto(&other, w));
 }
 END
     awk 'BEGIN {

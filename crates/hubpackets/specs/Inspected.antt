@@ -3,9 +3,8 @@
 -- Assumes nothing.
 use Rattle.std.specs.Prelude.{Bool, List, [], ℕ, take}
 use Rattle.monitor.specs.declared.state.MqttMonitor.{MqttMonitor}
-use Rattle.settings.specs.Loaded.{loaded_of}
+use Rattle.settings.specs.Loaded.{LoadedSettings, loaded_of}
 use Rattle.settings.specs.SettingsText.{settings_of}
-use Rattle.settings.specs.declared.load.LoadedSettings.{LoadedSettings}
 use Rattle.queue.specs.Queue.{wake_of, queue_end, records_of, sent_of}
 use Rattle.queue.specs.declared.run.QueueEnd.{QueueEnd}
 use Rattle.std.specs.Prelude.{Result, Ok, Err, ℤ}

@@ -2,16 +2,18 @@
 ghost use Rattle.std.specs.Prelude.{◌≡◌, length, take};
 ghost use Rattle.io.specs.Counts.{IsPrefixLen};
 ghost use Rattle.streams.specs.Turns.{DoneWithin};
+ghost use Rattle.settings.specs.Refused.{load_told};
 ghost use Rattle.hubpackets.specs.Inspected.{loaded_from, end_to, records_to};
 
 use monitor::state::MqttMonitor;
 use queue::run::{QueueEnd, run_packets};
-use settings::load::{LoadedSettings, load_settings};
+use settings::load::{Loaded, load_settings};
+use settings::refusal::Refused;
 
 // The settings text that was read, loaded.
-pub(crate) fn load_read(read: Result<usize, i32>, text: &[u8]) -> LoadedSettings
+pub(crate) fn load_read(read: Result<usize, i32>, text: &[u8]) -> Result<Loaded, Refused>
     requires { DoneWithin read (length text.now) }
-    ensures { result ≡ loaded_from read text.now }
+    ensures { load_told result ≡ loaded_from read text.now }
 {
     let Ok(n) = read else {
         return load_settings(b"");

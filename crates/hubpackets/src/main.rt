@@ -168,12 +168,10 @@ fn inspect_under(rt: &HostRuntime, capture: &mut [u8], at: u64, ok: bool) {
         );
         return;
     }
-    let settings = load_read(read, &text);
-    if settings.number != 0 {
-        refuse(settings.number, settings.line);
-        return;
+    match load_read(read, &text) {
+        Ok(settings) => inspect(rt, settings.monitor, capture, at, ok),
+        Err(refused) => refuse(refused.refusal.number(), refused.line),
     }
-    inspect(rt, settings.monitor, capture, at, ok);
 }
 
 // The capture's buffer is here, one for both ways: what is built into `main` takes its stack whichever way is gone.

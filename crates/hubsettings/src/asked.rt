@@ -8,7 +8,7 @@ use std::rt::Env;
 use streams::words::{is_there, word_at};
 
 // What a text sets; the text in a form; its rules that can never speak; a later and an earlier rule, by their numbers; or a word that the program does not know.
-#[derive(Clone, Copy)]
+#[derive(Clone, Copy, Debug, PartialEq, Eq)]
 pub enum Asked {
     Tell,
     To(u32),

@@ -18,34 +18,37 @@ use Rattle.settings.specs.contracts.dead.tell_dead as dead-tell_dead
 use Rattle.settings.proofs.dead.tell_dead.Reads as dead-tell_dead-reads
 use Rattle.settings.specs.contracts.dead.tell_pair as dead-tell_pair
 use Rattle.settings.proofs.dead.tell_pair.Reads as dead-tell_pair-reads
+use Rattle.settings.specs.contracts.refusal.SettingsRefusal.number as refusal-SettingsRefusal-number
+use Rattle.settings.proofs.refusal.SettingsRefusal.number.Reads as refusal-SettingsRefusal-number-reads
+use Rattle.settings.proofs.refusal.OnceLaws.{read_once, load_once, write_once, end_once}
 use Rattle.theorems.specs.One.{Any, One, OneLeft}
 
 pub one-read-read_settings : One read-read_settings.ended read-read_settings-reads.Post
-one-read-read_settings κs a x y e f p q = p ∙ sym q
+one-read-read_settings κs a x y e f p q = read_once _ _ (p ∙ sym q)
 
 pub any-read-read_settings : Any read-read_settings.ended read-read_settings-reads.Asked
 any-read-read_settings κs a = tt
 
 pub one-load-load_settings : One load-load_settings.ended load-load_settings-reads.Post
-one-load-load_settings κs a x y e f p q = p ∙ sym q
+one-load-load_settings κs a x y e f p q = load_once _ _ (p ∙ sym q)
 
 pub any-load-load_settings : Any load-load_settings.ended load-load_settings-reads.Asked
 any-load-load_settings κs a = tt
 
 pub one-write-settings_length : One write-settings_length.ended write-settings_length-reads.Post
-one-write-settings_length κs a x y e f p q = p ∙ sym q
+one-write-settings_length κs a x y e f p q = write_once _ _ (p ∙ sym q)
 
 pub any-write-settings_length : Any write-settings_length.ended write-settings_length-reads.Asked
 any-write-settings_length κs a = tt
 
 pub one-write-write_settings : OneLeft write-write_settings.ended write-write_settings-reads.Post (λ κs e. e.1.1.0.now)
-one-write-write_settings κs a x y e f p q = (p.0 ∙ sym q.0, p.1 ∙ sym q.1)
+one-write-write_settings κs a x y e f p q = (write_once _ _ (p.0 ∙ sym q.0), p.1 ∙ sym q.1)
 
 pub any-write-write_settings : Any write-write_settings.ended write-write_settings-reads.Asked
 any-write-write_settings κs a = tt
 
 pub one-convert-convert_settings : OneLeft convert-convert_settings.ended convert-convert_settings-reads.Post (λ κs e. e.1.1.0.now)
-one-convert-convert_settings κs a x y e f p q = (p.0 ∙ sym q.0, p.1 ∙ sym q.1)
+one-convert-convert_settings κs a x y e f p q = (end_once _ _ (p.0 ∙ sym q.0), p.1 ∙ sym q.1)
 
 pub any-convert-convert_settings : Any convert-convert_settings.ended convert-convert_settings-reads.Asked
 any-convert-convert_settings κs a = tt
@@ -73,3 +76,9 @@ one-dead-tell_pair κs a x y e f p q = (p.0 ∙ sym q.0, p.1.0 ∙ sym q.1.0)
 
 pub any-dead-tell_pair : Any dead-tell_pair.ended dead-tell_pair-reads.Asked
 any-dead-tell_pair κs a = tt
+
+pub one-refusal-SettingsRefusal-number : One refusal-SettingsRefusal-number.ended refusal-SettingsRefusal-number-reads.Post
+one-refusal-SettingsRefusal-number κs a x y e f p q = p ∙ sym q
+
+pub any-refusal-SettingsRefusal-number : Any refusal-SettingsRefusal-number.ended refusal-SettingsRefusal-number-reads.Asked
+any-refusal-SettingsRefusal-number κs a = tt

@@ -8,7 +8,8 @@ use Rattle.packets.proofs.messages.message_for.Goals as goal
 
 pub returns-then-p-gt-TOPIC_MAX : goal.returns-then-p-gt-TOPIC_MAX
 returns-then-p-gt-TOPIC_MAX c =
-    no_piece _ _ _ _ _ c.in_ok-h.ensures.value refl c.in_ok-h.ensures.typed c.in-Some.ensures.value (piece_long (piece_told (Some c.in-Some.p)) refl c.if-p-gt-TOPIC_MAX.true) (λ z. absurd (omega arith))
+    no_piece _ _ _ _ _ c.in_ok-h.ensures.value refl c.in_ok-h.ensures.typed c.in-Some.ensures.value
+    (piece_long (piece_told (Some c.in-Some.p)) refl c.if-p-gt-TOPIC_MAX.true) (λ z. absurd (omega arith))
 
 pub returns : goal.returns
 returns c =

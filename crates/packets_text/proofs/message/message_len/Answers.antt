@@ -18,7 +18,8 @@ sum : (c : After-hex_line_len-g) → let all = c.number_line_len-a.result + c.wo
     + c.hex_line_len-e.result + c.number_line_len-f.result + c.hex_line_len-g.result in
     (all ≡ length (message_text c.args.msg.now c.args.topic.now c.args.payload.now)) × (all ≤ 843)
 sum c =
-    message_sum c.args.msg.now c.args.topic.now c.args.payload.now (typed_at_After_hex_line_len_g c) c.requires.topic c.requires.payload c.clock_number-clock.ensures (c.from-kind.ensures ∙ c.type_number.ensures)
+    message_sum c.args.msg.now c.args.topic.now c.args.payload.now (typed_at_After_hex_line_len_g c) c.requires.topic c.requires.payload
+    c.clock_number-clock.ensures (c.from-kind.ensures ∙ c.type_number.ensures)
     (c.from-qos.ensures ∙ c.qos_number.ensures.value) c.number_line_len-a.ensures c.word_line_len-b.ensures c.number_line_len-c.ensures
     c.number_line_len-d.ensures c.hex_line_len-e.ensures (rw c.from.ensures at c.number_line_len-f.ensures) c.hex_line_len-g.ensures
 

@@ -14,6 +14,7 @@ invariant-loop-k l =
     record {
       good : Good l.received.bytes.now l.received.place l.received.now_us l.received.ok (l.n + l.received.packet.messages - l.k) l.step;
       alike :
-          leb (length (light_text (book_of l.m) l.k l.next_id l.total (left_calls l.received.bytes.now l.received.place l.received.now_us l.received.ok (l.n + l.received.packet.messages - l.k) l.step))) l.left
+          leb (length (light_text (book_of l.m) l.k l.next_id l.total
+          (left_calls l.received.bytes.now l.received.place l.received.now_us l.received.ok (l.n + l.received.packet.messages - l.k) l.step))) l.left
           ≡ leb (length (light_text (book_of l.m) l.n l.m.next_alert_id l.m.total_alerts (calls_at l.received.bytes.now l.received.place l.received.now_us l.received.ok))) l.room;
     }

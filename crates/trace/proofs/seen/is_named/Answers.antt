@@ -32,7 +32,8 @@ topic-requires c = c.read_message-group.ensures.within.topic_long.1
 
 pub returns-then-names : goal.returns-then-names
 returns-then-names c =
-    publish_here _ _ c.loop-p-test.true c.read_message-group.ensures.value c.if-group-ne0.false (c.topic.ensures ∙ (name_has (goal.at.returns-then-names c).Else-group-ne0).0) c.names.ensures c.if-names.true
+    publish_here _ _ c.loop-p-test.true c.read_message-group.ensures.value c.if-group-ne0.false
+    (c.topic.ensures ∙ (name_has (goal.at.returns-then-names c).Else-group-ne0).0) c.names.ensures c.if-names.true
     ∙ c.loop-p.invariant.0
 
 pub loop-p-smaller : goal.loop-p-smaller
@@ -41,7 +42,8 @@ loop-p-smaller c =
 
 pub loop-p-preserved : goal.loop-p-preserved
 loop-p-preserved c = (
-  publish_further _ _ c.loop-p-test.true c.read_message-group.ensures.value c.if-group-ne0.false (c.topic.ensures ∙ (name_has (goal.at.loop-p-preserved c).Else-group-ne0).0) c.names.ensures c.if-names.false
+  publish_further _ _ c.loop-p-test.true c.read_message-group.ensures.value c.if-group-ne0.false
+    (c.topic.ensures ∙ (name_has (goal.at.loop-p-preserved c).Else-group-ne0).0) c.names.ensures c.if-names.false
       ∙ c.loop-p.invariant.0,
   (name_has (goal.at.loop-p-preserved c).Else-group-ne0).2,
   payload_long (goal.at.loop-p-preserved c).Else-group-ne0,
