@@ -67,7 +67,13 @@ fn answer_dead(read: Result<usize, i32>, text: &[u8], out: &mut [u8]) -> usize
 }
 
 // What stands between two of its rules, likewise.
-fn answer_pair(later: u64, earlier: u64, read: Result<usize, i32>, text: &[u8], out: &mut [u8]) -> usize
+fn answer_pair(
+    later: u64,
+    earlier: u64,
+    read: Result<usize, i32>,
+    text: &[u8],
+    out: &mut [u8],
+) -> usize
     requires done_within { DoneWithin read (length text.now) }
     requires room { told_room ≡ length out.old }
     ensures prefix_len { IsPrefixLen result out.new }

@@ -7,6 +7,7 @@ use Rattle.lines.specs.Line.{number_line, flag_line, hex_line}
 use Rattle.monitor.specs.Alerts.{severity_number}
 use Rattle.monitor.specs.declared.alerts.MqttInspectResult.{MqttInspectResult}
 use Rattle.monitor.specs.declared.alerts.SecurityAlert.{SecurityAlert}
+use Rattle.trace.specs.declared.record.Closing.{Closing}
 use Rattle.trace.specs.declared.record.RecordRefusal.{RecordRefusal}
 use Rattle.trace.specs.declared.record.RecordRefusal.TheVariants.{BadState, TooShort}
 
@@ -31,6 +32,10 @@ record_text n r =
 unfoldable pub closing_text : ℕ → ℕ → ℕ → ℕ → List ℕ
 closing_text number line inspected total =
     number_line (bytes "end=") number ++ number_line (bytes "line=") line ++ number_line (bytes "inspected=") inspected ++ number_line (bytes "total=") total
+
+-- the closing lines as the code has what they say
+abbrev pub closing_lines : Closing → List ℕ
+closing_lines c = closing_text c.number c.line c.inspected c.total
 
 -- 10 for an alert count over 4, then 28 where the buffer is shorter than the record; 0 is none
 unfoldable pub record_refusal : ℕ → ℕ → MqttInspectResult → ℕ

@@ -1,7 +1,7 @@
 // One message's lines, from `n=` on, and the closing lines (document 01, "The trace"). Writing a record is a call apart from inspecting.
 ghost use Rattle.std.specs.Prelude.{◌≡◌, ◌≤◌, length, take};
 ghost use Rattle.lines.specs.Wrote.{Wrote};
-ghost use Rattle.trace.specs.Record.{alert_text, alerts_text, record_text, closing_text, record_written, record_kept, written_by};
+ghost use Rattle.trace.specs.Record.{alert_text, alerts_text, record_text, closing_lines, record_written, record_kept, written_by};
 
 use lines::lengths::{flag_line_len, hex_line_len, number_line_len};
 use lines::put::{put_flag_line, put_hex_line, put_number_line};
@@ -66,7 +66,7 @@ pub fn put_record(out: &mut [u8], at: usize, n: u64, inspected: &MqttInspectResu
 
 /// The closing lines: end number, last or refused line, messages, alerts.
 pub fn put_closing(out: &mut [u8], at: usize, closing: &Closing) -> usize
-    ensures { Wrote out.old out.new at (closing_text closing.now.number closing.now.line closing.now.inspected closing.now.total) result }
+    ensures { Wrote out.old out.new at (closing_lines closing.now) result }
 {
     let after_end = put_number_line(out, at, b"end=", u64::from(closing.number));
     let after_line = put_number_line(out, after_end, b"line=", closing.line);
@@ -112,7 +112,7 @@ pub fn record_len(n: u64, inspected: &MqttInspectResult) -> usize
 
 /// The length of the closing lines.
 pub fn closing_len(closing: &Closing) -> usize
-    ensures { (result ≡ length (closing_text closing.now.number closing.now.line closing.now.inspected closing.now.total)) × (result ≤ 109) }
+    ensures { (result ≡ length (closing_lines closing.now)) × (result ≤ 109) }
 {
     let end = number_line_len(b"end=", u64::from(closing.number));
     let last = number_line_len(b"line=", closing.line);

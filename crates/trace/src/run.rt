@@ -3,7 +3,7 @@
 ghost use Rattle.std.specs.Prelude.{true, ◌&&◌, ◌≡◌, ◌+◌, ◌*◌, ◌≤◌, leb, length};
 ghost use Rattle.monitor.specs.State.{well_formed};
 ghost use Rattle.rules_text.specs.RuleGroup.{rule_at};
-ghost use Rattle.trace.specs.Record.{record_text, closing_text};
+ghost use Rattle.trace.specs.Record.{record_text, closing_lines};
 ghost use Rattle.trace.specs.Trace.{loaded_as, rule_into, loaded, trace_text, enough, put_if, whole_end, trace_end, trace_kept};
 
 use crate::groups::{read_message, read_opening};
@@ -137,9 +137,9 @@ fn pass_record(
 // The closing lines at a place of the buffer, or only their length; and how the trace ended.
 fn pass_closing(out: &mut [u8], at: usize, closing: &Closing, write: bool) -> TraceEnd
     requires small { at ≤ enough }
-    requires room { write ≡ true → at + length (closing_text closing.now.number closing.now.line closing.now.inspected closing.now.total) ≤ length out.old }
-    ensures next { result ≡ record { number = closing.now.number; line = closing.now.line; length = at + length (closing_text closing.now.number closing.now.line closing.now.inspected closing.now.total) } }
-    ensures bytes { out.new ≡ put_if write out.old at (closing_text closing.now.number closing.now.line closing.now.inspected closing.now.total) }
+    requires room { write ≡ true → at + length (closing_lines closing.now) ≤ length out.old }
+    ensures next { result ≡ record { number = closing.now.number; line = closing.now.line; length = at + length (closing_lines closing.now) } }
+    ensures bytes { out.new ≡ put_if write out.old at (closing_lines closing.now) }
 {
     let mut end = TraceEnd {
         number: closing.number,

@@ -103,12 +103,12 @@ refusal_number P p taken bad broken =
 pub check_once : (r s : Result Unit PatternRefusal) → refusal pattern_number r ≡ refusal pattern_number s → r ≡ s
 check_once = refusal_once pattern_number once real
   where
-  once : (e f : PatternRefusal) → pattern_number e ≡ pattern_number f → e ≡ f
-  once BadPattern BadPattern p = refl
-  once BadPattern NotUtf8 p = absurd (omega (arith, p))
-  once NotUtf8 BadPattern p = absurd (omega (arith, p))
-  once NotUtf8 NotUtf8 p = refl
+    once : (e f : PatternRefusal) → pattern_number e ≡ pattern_number f → e ≡ f
+    once BadPattern BadPattern p = refl
+    once BadPattern NotUtf8 p = absurd (omega (arith, p))
+    once NotUtf8 BadPattern p = absurd (omega (arith, p))
+    once NotUtf8 NotUtf8 p = refl
 
-  real : (e : PatternRefusal) → 1 ≤ pattern_number e
-  real BadPattern = omega arith
-  real NotUtf8 = omega arith
+    real : (e : PatternRefusal) → 1 ≤ pattern_number e
+    real BadPattern = omega arith
+    real NotUtf8 = omega arith

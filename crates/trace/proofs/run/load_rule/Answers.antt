@@ -36,7 +36,7 @@ offset_bounds-m-placement c = omega (arith, c.in-Ok.ensures.within)
 pub returns-in-Err : goal.returns-in-Err
 returns-in-Err c =
     let refused = rule_refused c.args.m.now c.args.text.now c.args.start.line c.read_rule-rule.result c.requires.formed c.if-rule-ne0.false
-        (pattern_has (goal.at.returns-in-Err c).Else-rule-ne0).0 c.in-Err.ensures.plan
+    (pattern_has (goal.at.returns-in-Err c).Else-rule-ne0).0 c.in-Err.ensures.plan
     (λ z. omega (arith, z, rule_real c.in-Err.refusal)) in
     rw (← c.read_rule-rule.ensures.value) (rw (← c.number.ensures) at refused)
 

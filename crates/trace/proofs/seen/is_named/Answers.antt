@@ -43,7 +43,7 @@ loop-p-smaller c =
 pub loop-p-preserved : goal.loop-p-preserved
 loop-p-preserved c = (
   publish_further _ _ c.loop-p-test.true c.read_message-group.ensures.value c.if-group-ne0.false
-    (c.topic.ensures ∙ (name_has (goal.at.loop-p-preserved c).Else-group-ne0).0) c.names.ensures c.if-names.false
+      (c.topic.ensures ∙ (name_has (goal.at.loop-p-preserved c).Else-group-ne0).0) c.names.ensures c.if-names.false
       ∙ c.loop-p.invariant.0,
   (name_has (goal.at.loop-p-preserved c).Else-group-ne0).2,
   payload_long (goal.at.loop-p-preserved c).Else-group-ne0,
