@@ -3,7 +3,7 @@
 ghost use Rattle.std.specs.Prelude.{◌≡◌, ◌<◌, Bool, ℕ, not, length};
 ghost use Rattle.tables.specs.Scan.{find, placed, least_of, least_place, any, seat};
 
-// A record of a table: whether it is live, and when it was last used.
+// A record of a table: whether it is live, and when it was last used. The search by a key is no third function here: it is the chain `position`.
 pub trait Record {
     ghost live: { Self → Bool };
 
@@ -23,7 +23,7 @@ pub fn free_place<T: Record>(slots: &[T]) -> Option<usize>
     slots.iter().position(|record| !record.is_live())
 }
 
-// The place of the least stamp, the first in a tie; 0 in an empty table.
+// The place of the least stamp; 0 in an empty table. It counts down, so that the first place wins a tie.
 pub fn oldest_place<T: Record>(slots: &[T]) -> usize
     ensures place { result ≡ least_place (least_of T.stamp any slots.now) }
     ensures within { 0 < length slots.now → result < length slots.now }
