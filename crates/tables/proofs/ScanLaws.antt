@@ -5,7 +5,6 @@ use mathlib.Core.Bool.{Bool, true, false, cond, false≢true}
 use mathlib.Core.List.{List, [], ◌∷◌}
 use mathlib.Core.Path.{◌≡◌, refl, sym, ap, ◌∙◌}
 use Prim.Native.Nat.{ℕ, zero, suc, ◌+◌, ◌-◌, ◌<◌, ◌≤◌}
-use native.Mathlib.Numerals.{add-one}
 use native.Mathlib.Omega.{arith}
 use borrow.Author.Tests.{le-leb, lt-leb, lt-ltb, le-ltb, ltb-true, ltb-false, leb-true, leb-false}
 use lib.Dec.{leb, ltb}
@@ -47,26 +46,6 @@ placed_some {n} {k} {at} e s =
 pub placed_none : {n k : ℕ} {r : Option ℕ} → r ≡ placed n k → r ≡ None → n ≤ k
 placed_none {n} {k} e s =
     by (ltb k n) (λ h. let u : Some k ≡ None = rw h at (sym e ∙ s) in cc) (λ h. ltb-false k n h)
-
-module _ {A : Type 0} (p : A → Bool) (l : List A) {i : ℕ} (d : A) where
-  -- the record at a place passes: this is the first that does
-  pub find_here : i < length l → find p l ≡ i + find p (drop i l) → p (get_or l i d) ≡ true → i ≡ find p l
-  unfolding find
-  find_here h inv e =
-      let z : find p (drop i l) ≡ 0 = rw (drop-cons l i d h, e, find) in omega arith
-
-  -- it does not: the search goes on behind it
-  pub find_next : i < length l → find p l ≡ i + find p (drop i l) → p (get_or l i d) ≡ false → find p l ≡ i + 1 + find p (drop (i + 1) l)
-  unfolding find
-  find_next h inv e =
-      let z : find p (drop i l) ≡ suc (find p (drop (i + 1) l)) = rw (drop-cons l i d h, e, find, add-one) in omega arith
-
-module _ {A : Type 0} (p : A → Bool) (l : List A) {i : ℕ} where
-  -- no record is left
-  pub find_done : i ≤ length l → length l ≤ i → find p l ≡ i + find p (drop i l) → i ≡ find p l
-  unfolding find
-  find_done h g inv =
-      let z : find p (drop i l) ≡ 0 = rw (drop_of_length-le l {i = i} g) in omega arith
 
 -- a loop that counts down from the table's end: `at` is the first place of the least number `u` from `i` on
 pub record LeastFrom {A : Type 0} (f : A → ℕ) (l : List A) (at u i : ℕ) : Type 0 where

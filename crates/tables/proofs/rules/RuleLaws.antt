@@ -1,13 +1,12 @@
--- What is true of one rule, for `rule_fine` and the two tests, and of a search of the rule table, for `equal_rule` and the monitor's `rule_for`. Assumes nothing.
-use mathlib.Core.Bool.{Bool, true, false, ◌&&◌}
+-- What is true of one rule that number 10's test passes, and of the first that takes a topic. Assumes nothing.
+use mathlib.Core.Bool.{Bool, true, ◌&&◌}
 use mathlib.Core.List.{List}
 use mathlib.Core.Path.{◌≡◌, sym, ap}
-use Prim.Native.Nat.{ℕ, ◌+◌, ◌≤◌, ◌<◌, min}
+use Prim.Native.Nat.{ℕ, ◌≤◌, min}
 use native.Mathlib.Omega.{arith}
 use borrow.Author.Tests.{leb-true, eqb-true}
 use lib.Dec.{eqb, leb}
-use lib.ListN.{length, take, drop, get_or, length-take}
-use lib.Seq.{get_or-take}
+use lib.ListN.{length, take}
 use Rattle.laws.specs.Lists.{every}
 use Rattle.laws.proofs.Tests.{both}
 use Rattle.laws.proofs.Lists.{take-min}
@@ -16,9 +15,8 @@ use Rattle.topics.specs.Patterns.{pattern_refusal}
 use Rattle.topics.proofs.matching.Meaning.{meaning}
 use Rattle.topics.proofs.patterns.PatternLaws.{accepted_placed}
 use Rattle.tables.specs.declared.rules.TopicRule.{TopicRule}
-use Rattle.tables.specs.Scan.{find}
-use Rattle.tables.specs.Rules.{pattern_of, rule_fine, no_rule, first_rule}
-use Rattle.tables.proofs.ScanLaws.{find_same, find_here, find_next, find_done}
+use Rattle.tables.specs.Rules.{pattern_of, rule_fine, first_rule}
+use Rattle.tables.proofs.ScanLaws.{find_same}
 
 module _ (r : TopicRule) where
   -- the bytes that the code lends are the rule's pattern
@@ -36,22 +34,6 @@ module _ (r : TopicRule) where
 -- a live rule whose pattern passes a test
 abbrev pub passing : (List ℕ → Bool) → TopicRule → Bool
 passing q r = r.active && q (pattern_of r)
-
--- a search of the table's first places by a loop that counts up and leaves at the first rule that passes
-module _ (q : List ℕ → Bool) (rules : List TopicRule) (count : ℕ) (i : ℕ) {n : ℕ} (full : length rules ≡ 32) (used : n ≡ min count 32)
-    (found : find (passing q) (take count rules) ≡ i + find (passing q) (drop i (take count rules))) where
-  many : length (take count rules) ≡ n
-  many = omega (arith, length-take count rules)
-
-  pub seek_here : i < n → passing q (get_or rules i no_rule) ≡ true → i ≡ find (passing q) (take count rules)
-  seek_here h e = let m = many in find_here (passing q) (take count rules) no_rule (omega arith) found (rw (get_or-take count rules i no_rule (omega arith)) e)
-
-  pub seek_next : i < n → passing q (get_or rules i no_rule) ≡ false
-      → find (passing q) (take count rules) ≡ i + 1 + find (passing q) (drop (i + 1) (take count rules))
-  seek_next h e = let m = many in find_next (passing q) (take count rules) no_rule (omega arith) found (rw (get_or-take count rules i no_rule (omega arith)) e)
-
-  pub seek_done : i ≤ n → n ≤ i → i ≡ find (passing q) (take count rules)
-  seek_done h g = let m = many in find_done (passing q) (take count rules) (omega arith) (omega arith) found
 
 -- of rules as `add_rule` leaves them the first that takes a topic is the first that does so level by level
 pub first_levels : (f d : Bool) (t : List ℕ) (rules : List TopicRule) (n : ℕ) → every rule_fine (take n rules) ≡ true
