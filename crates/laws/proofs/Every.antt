@@ -1,8 +1,8 @@
 -- Laws of `every`, a test of each element of a list: for loops that go through a list and end at the first element that fails, and for whoever asks after one place.
 -- `d` is what is read past the list's end. Assumes nothing.
-use mathlib.Core.Bool.{Bool, true, false, ◌&&◌}
+use mathlib.Core.Bool.{Bool, true, false}
 use mathlib.Core.List.{List, [], ◌∷◌, ◌++◌}
-use mathlib.Core.Path.{◌≡◌, refl, sym, ap, ◌∙◌}
+use mathlib.Core.Path.{◌≡◌, refl}
 use Prim.Native.Nat.{ℕ, zero, suc, ◌+◌, ◌≤◌, ◌<◌}
 use native.Mathlib.Numerals.{add-one}
 use native.Mathlib.Omega.{arith}
@@ -77,37 +77,6 @@ module _ {A : Type 0} (p : A → Bool) where
     first_every f =
         every_each (take n l) d
         (λ i k. let m : i < n = omega (arith, length-take n l) in rw (get_or-take n l i d m) (f i m))
-
--- `l.iter().all(p)`
-pub every_all : {A : Type 0} (p : A → Bool) (l : List A) → every p l ≡ list_all p l
-unfolding every
-every_all p [] = refl
-every_all p (x ∷ l) = ap (λ (t : Bool). p x && t) (every_all p l)
-
--- a loop over a list: those from `i` on all pass exactly where all do
-module _ {A : Type 0} (p : A → Bool) (l : List A) (i : ℕ) (inv : every p (drop i l) ≡ every p l) where
-  -- the element at `i` fails
-  pub every_not : (d : A) → i < length l → p (get_or l i d) ≡ false → false ≡ every p l
-  every_not d h e = sym (every_off p l d i h e) ∙ inv
-
-  -- it passes: so it goes on
-  pub every_next : (d : A) → i < length l → p (get_or l i d) ≡ true → every p (drop (i + 1) l) ≡ every p l
-  every_next d h e = every_on p l d i h e ∙ inv
-
-  -- none is left
-  pub every_done : length l ≤ i → true ≡ every p l
-  every_done h = sym (every_end p l i h) ∙ inv
-
--- a loop over the first n elements
-module _ {A : Type 0} (p : A → Bool) (l : List A) (n i : ℕ) (fit : n ≤ length l) (inv : every p (drop i (take n l)) ≡ every p (take n l)) where
-  pub front_not : (d : A) → i < n → p (get_or l i d) ≡ false → false ≡ every p (take n l)
-  front_not d h e = every_not p (take n l) i inv d (omega (arith, length-take n l)) (rw (get_or-take n l i d h) e)
-
-  pub front_next : (d : A) → i < n → p (get_or l i d) ≡ true → every p (drop (i + 1) (take n l)) ≡ every p (take n l)
-  front_next d h e = every_next p (take n l) i inv d (omega (arith, length-take n l)) (rw (get_or-take n l i d h) e)
-
-  pub front_done : n ≤ i → true ≡ every p (take n l)
-  front_done h = every_done p (take n l) i inv (omega (arith, length-take n l))
 
 -- a chain's word for it
 pub list_all_every : {A : Type 0} (p : A → Bool) (l : List A) → list_all p l ≡ every p l

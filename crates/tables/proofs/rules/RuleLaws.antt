@@ -1,4 +1,4 @@
--- What is true of one rule, and of the choice of the first that takes a topic. Assumes nothing.
+-- What is true of one rule that number 10's test passes, and of the first that takes a topic. Assumes nothing.
 use mathlib.Core.Bool.{Bool, true, ◌&&◌}
 use mathlib.Core.List.{List}
 use mathlib.Core.Path.{◌≡◌, sym, ap}
