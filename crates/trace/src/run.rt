@@ -19,7 +19,7 @@ use topics::matching::Matching;
 // How long a text may be.
 const TEXT_MAX: usize = 65536;
 
-// How a trace ended: 0 is whole, else the number that refused it, with the last or refused line and how many bytes were written; 28 writes nothing.
+// How a trace ended: 0 is whole, else the number that refused it, with the last or refused line and how many bytes were written; 28 writes nothing. C reads it (include/hub.h).
 #[repr(C)]
 #[derive(Clone, Copy, Debug, PartialEq, Eq)]
 pub struct TraceEnd {

@@ -9,6 +9,6 @@ use Rattle.trace.proofs.standing_lines.put_from.Goals as goal
 pub returns : goal.returns
 unfolding opening_text
 returns c = record {
-  text = rw (← c.saturating_sub-wait.ensures) (wrote_then c.put_number_line-after_time.ensures c.put_seconds_line.ensures);
+  text = rw c.saturating_sub-wait.ensures at (wrote_then c.put_number_line-after_time.ensures c.put_seconds_line.ensures);
   short = λ h. opening_short c.args.key.now c.args.last (From c.args.time) h (search rules);
 }
