@@ -14,7 +14,8 @@ use Rattle.tables.specs.declared.rules.RuleRefusal.TheVariants.{TableFull as Rul
 use Rattle.settings.specs.Refused.{refusal_number, refusal_at, line_checked}
 use Rattle.settings.specs.declared.refusal.Refused.{Refused}
 use Rattle.settings.specs.declared.refusal.SettingsRefusal.{SettingsRefusal}
-use Rattle.settings.specs.declared.refusal.SettingsRefusal.TheVariants.{TableFull, BadPattern, BadState, WrongKey, BadNumber, UnknownWord, BadHex, LongHex, NoLineEnd, LongText, NoRoom, UnknownForm, GivenTwice, NotUtf8, NoWord}
+use Rattle.settings.specs.declared.refusal.SettingsRefusal.TheVariants.{TableFull, BadPattern, BadState, WrongKey, BadNumber, UnknownWord, BadHex, LongHex}
+use Rattle.settings.specs.declared.refusal.SettingsRefusal.TheVariants.{NoLineEnd, LongText, NoRoom, UnknownForm, GivenTwice, NotUtf8, NoWord}
 
 -- a number that a line gives
 pub data Known : ℕ → Type 0 where
