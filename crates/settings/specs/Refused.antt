@@ -17,13 +17,8 @@ use Rattle.settings.specs.declared.load.Loaded.{Loaded}
 use Rattle.settings.specs.declared.read.SettingsFound.{SettingsFound}
 use Rattle.settings.specs.declared.refusal.Refused.{Refused}
 use Rattle.settings.specs.declared.refusal.SettingsRefusal.{SettingsRefusal}
-<<<<<<< HEAD
-use Rattle.settings.specs.declared.refusal.SettingsRefusal.TheVariants.{TableFull, BadPattern, BadState, WrongKey, BadNumber, UnknownWord}
-use Rattle.settings.specs.declared.refusal.SettingsRefusal.TheVariants.{BadHex, LongHex, NoLineEnd, LongText, NoRoom, UnknownForm, GivenTwice, NotUtf8, NoWord}
-=======
 use Rattle.settings.specs.declared.refusal.SettingsRefusal.TheVariants.{TableFull, BadPattern, BadState, WrongKey, BadNumber, UnknownWord, BadHex, LongHex}
 use Rattle.settings.specs.declared.refusal.SettingsRefusal.TheVariants.{NoLineEnd, LongText, NoRoom, UnknownForm, GivenTwice, NotUtf8, NoWord}
->>>>>>> 9ec41dfe91369d70686f02e6937c95f609bf067b
 use Rattle.settings.specs.declared.rules.RulesFound.{RulesFound}
 
 -- the number of a refusal

@@ -14,13 +14,8 @@ use Rattle.tables.specs.declared.rules.RuleRefusal.TheVariants.{TableFull as Rul
 use Rattle.settings.specs.Refused.{refusal_number, refusal_at, line_checked}
 use Rattle.settings.specs.declared.refusal.Refused.{Refused}
 use Rattle.settings.specs.declared.refusal.SettingsRefusal.{SettingsRefusal}
-<<<<<<< HEAD
-use Rattle.settings.specs.declared.refusal.SettingsRefusal.TheVariants.{TableFull, BadPattern, BadState, WrongKey, BadNumber, UnknownWord}
-use Rattle.settings.specs.declared.refusal.SettingsRefusal.TheVariants.{BadHex, LongHex, NoLineEnd, LongText, NoRoom, UnknownForm, GivenTwice, NotUtf8, NoWord}
-=======
 use Rattle.settings.specs.declared.refusal.SettingsRefusal.TheVariants.{TableFull, BadPattern, BadState, WrongKey, BadNumber, UnknownWord, BadHex, LongHex}
 use Rattle.settings.specs.declared.refusal.SettingsRefusal.TheVariants.{NoLineEnd, LongText, NoRoom, UnknownForm, GivenTwice, NotUtf8, NoWord}
->>>>>>> 9ec41dfe91369d70686f02e6937c95f609bf067b
 
 -- a number that a line gives
 pub data Known : ℕ → Type 0 where
