@@ -26,8 +26,10 @@ pub fn ask(m: &mut MqttMonitor, name: &[u8], q: &[u8]) {
         b"new_standard" => *m = MqttMonitor::new_standard(),
         b"new_standard_deny_default" => *m = MqttMonitor::new_standard_deny_default(),
         b"counters" => say_counters(m),
-        b"set_connect_storm_params" =>
-            say_done(m.set_connect_storm_params(number8(q, 1), number(q, 2))),
+        b"set_connect_storm_params" => say_done(m.set_connect_storm_params(
+            number8(q, 1),
+            number(q, 2),
+        )),
         b"remove_rate_bucket" => say_done(m.remove_rate_bucket(upto(&topic, n))),
         b"remove_ewma_tracker" => say_done(m.remove_ewma_tracker(upto(&topic, n))),
         b"reset_state" => say_done(m.reset_state()),

@@ -48,7 +48,8 @@ impl<'a> Received<'a> {
     // What the monitor decides of a message.
     pub(crate) fn plan(&self, m: &MqttMonitor, message: &PacketMessage) -> Plan
         requires { Within self.now.bytes.now self.now.place (message_told (Ok message.now)) }
-        ensures { result ≡ plan_of (matcher_of m.now) m.now message.now.msg (topic_bytes self.now.bytes.now (message_told (Ok message.now))) (payload_bytes self.now.bytes.now (message_told (Ok message.now))) }
+        ensures { result ≡ plan_of (matcher_of m.now) m.now message.now.msg
+            (topic_bytes self.now.bytes.now (message_told (Ok message.now))) (payload_bytes self.now.bytes.now (message_told (Ok message.now))) }
     {
         m.plan_for(&message.msg, self.topic(message), self.payload(message))
     }

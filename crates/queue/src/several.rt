@@ -18,18 +18,11 @@ use packets::refusal::PacketRefusal;
 use trace::record::{put_record, record_len};
 
 // The records of a packet's messages, the first of which is the n-th, fit into so much room, or `NoRoom`.
-fn check_room(
-    m: &MqttMonitor,
-    received: &Received,
-    n: u64,
-    room: usize,
-) -> Result<(), QueueRefusal>
+fn check_room(m: &MqttMonitor, received: &Received, n: u64, room: usize) -> Result<(), QueueRefusal>
     requires read { IsRead received.now.bytes.now received.now.place received.now.packet }
     requires messages_bound { n + received.now.packet.messages < 2 ^ 64 }
-    ensures {
-        refusal queue_number result
-        ≡ cond (leb (length (light_text (book_of m.now) n m.now.next_alert_id m.now.total_alerts (calls_at received.now.bytes.now received.now.place received.now.now_us received.now.ok))) room) 0 28
-    }
+    ensures { refusal queue_number result
+        ≡ cond (leb (length (light_text (book_of m.now) n m.now.next_alert_id m.now.total_alerts (calls_at received.now.bytes.now received.now.place received.now.now_us received.now.ok))) room) 0 28 }
 {
     let mut step = received.packet.first;
     let mut next_id = m.next_alert_id;

@@ -31,7 +31,7 @@ pub returns-then-left-need : goal.returns-then-left-need
 returns-then-left-need c =
     let l = c.loop-k in
     let f = fits_not _ _ _ _ _ _ (one_more (goal.at.returns-then-left-need c).After-message) l.invariant.good (rw c.in_ok-message.was at c.message.ensures) _ l.k l.next_id l.total
-        c.plan_light-plan.ensures (rw c.result.ensures at c.record_len-need.ensures.0) l.left c.if-left-need.true in
+    c.plan_light-plan.ensures (rw c.result.ensures at c.record_len-need.ensures.0) l.left c.if-left-need.true in
     rw (← l.invariant.alike, f)
 
 pub loop-k-preserved : goal.loop-k-preserved
