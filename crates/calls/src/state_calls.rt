@@ -1,5 +1,6 @@
 // Constructors, counters, CONNECT settings, removals and reset:
-//     new · new_deny_default · new_standard · new_standard_deny_default · counters · set_connect_storm_params THRESHOLD WINDOW · remove_rate_bucket TOPIC · remove_ewma_tracker TOPIC · reset_state
+//     new · new_deny_default · new_standard · new_standard_deny_default · counters · set_connect_storm_params THRESHOLD WINDOW
+//     remove_rate_bucket TOPIC · remove_ewma_tracker TOPIC · reset_state
 use crate::messages;
 use crate::parts::number8;
 use crate::say::{say_done, say_number};

@@ -9,9 +9,7 @@ use Rattle.topics.specs.declared.matching.Matching.{Matching}
 use Rattle.monitor.specs.Gate.{gate_of}
 use Rattle.monitor.specs.Inspect.{result_of}
 use Rattle.monitor.specs.Light.{light_plan}
-use Rattle.monitor.specs.Plan.{plan_of}
 use Rattle.monitor.specs.Runs.{Call}
-use Rattle.monitor.specs.State.{matcher_of}
 use Rattle.monitor.specs.declared.plan.Plan.{Plan}
 use Rattle.monitor.specs.declared.state.MqttMonitor.{MqttMonitor}
 use Rattle.trace.specs.Record.{record_text}
@@ -25,10 +23,6 @@ pub record Rulebook : Type 0 where
 
 abbrev pub book_of : MqttMonitor → Rulebook
 book_of m = record { rules = m.rules; count = m.rule_count; default_action = m.default_action; matching = m.matching }
-
--- the plan of a call under a monitor, by its own matcher
-abbrev pub planned_for : MqttMonitor → Call → Plan
-planned_for m c = plan_of (matcher_of m) m c.msg c.topic c.payload
 
 -- the plan of a message by a monitor's rules, for the alert id to come and the alert total so far
 unfoldable pub light_for : Rulebook → ℕ → ℕ → Call → Plan

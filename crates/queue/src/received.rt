@@ -1,8 +1,10 @@
 // A packet of a run where it stands, and what the monitor decides of one of its messages.
 ghost use Rattle.std.specs.Prelude.{◌≡◌, Ok};
+ghost use Rattle.monitor.specs.Plan.{plan_of};
+ghost use Rattle.monitor.specs.State.{matcher_of};
 ghost use Rattle.packets.specs.Messages.{message_told, message_at};
 ghost use Rattle.packets.specs.Taken.{call_of, topic_bytes, payload_bytes, Within};
-ghost use Rattle.queue.specs.Several.{book_of, light_for, planned_for};
+ghost use Rattle.queue.specs.Several.{book_of, light_for};
 
 use monitor::plan::{Plan, plan_light};
 use monitor::state::MqttMonitor;
@@ -46,7 +48,8 @@ impl<'a> Received<'a> {
     // What the monitor decides of a message.
     pub(crate) fn plan(&self, m: &MqttMonitor, message: &PacketMessage) -> Plan
         requires { Within self.now.bytes.now self.now.place (message_told (Ok message.now)) }
-        ensures { result ≡ planned_for m.now (call_of self.now.bytes.now (message_told (Ok message.now))) }
+        ensures { result ≡ plan_of (matcher_of m.now) m.now message.now.msg
+            (topic_bytes self.now.bytes.now (message_told (Ok message.now))) (payload_bytes self.now.bytes.now (message_told (Ok message.now))) }
     {
         m.plan_for(&message.msg, self.topic(message), self.payload(message))
     }

@@ -34,7 +34,8 @@ use Rattle.queue.proofs.run.RanLaws.{records_join, formless, left, left_end, lef
 use Rattle.queue.proofs.several.LoopLaws.{fits_less}
 
 -- what is handed back, from its parts
-end_is : (m₀ : MqttMonitor) (number at : ℕ) (sent : List Call) {done p : ℕ} {m : MqttMonitor} → done ≡ length sent → p ≡ length (records_of m₀ sent) → m ≡ after_by shipped m₀ sent
+end_is : (m₀ : MqttMonitor) (number at : ℕ) (sent : List Call) {done p : ℕ} {m : MqttMonitor}
+    → done ≡ length sent → p ≡ length (records_of m₀ sent) → m ≡ after_by shipped m₀ sent
     → ◌≡◌ {A = QueueEnd} (record { number = number; place = at; done = done; length = p; monitor = m }) (end_of m₀ (ends_at number at sent))
 end_is m₀ number at sent a b c = rw (a, b, c)
 

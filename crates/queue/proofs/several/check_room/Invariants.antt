@@ -11,10 +11,11 @@ use Rattle.queue.proofs.several.check_room.Given as goal
 
 abbrev pub invariant-loop-k : goal.invariant-loop-k
 invariant-loop-k l =
+    let r = l.received in
+    let unmeasured = l.n + r.packet.messages - l.k in
     record {
-      good : Good l.received.bytes.now l.received.place l.received.now_us l.received.ok (l.n + l.received.packet.messages - l.k) l.step;
+      good : Good r.bytes.now r.place r.now_us r.ok unmeasured l.step;
       alike :
-          leb (length (light_text (book_of l.m) l.k l.next_id l.total
-          (left_calls l.received.bytes.now l.received.place l.received.now_us l.received.ok (l.n + l.received.packet.messages - l.k) l.step))) l.left
-          ≡ leb (length (light_text (book_of l.m) l.n l.m.next_alert_id l.m.total_alerts (calls_at l.received.bytes.now l.received.place l.received.now_us l.received.ok))) l.room;
+          leb (length (light_text (book_of l.m) l.k l.next_id l.total (left_calls r.bytes.now r.place r.now_us r.ok unmeasured l.step))) l.left
+          ≡ leb (length (light_text (book_of l.m) l.n l.m.next_alert_id l.m.total_alerts (calls_at r.bytes.now r.place r.now_us r.ok))) l.room;
     }

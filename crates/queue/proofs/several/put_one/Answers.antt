@@ -8,8 +8,8 @@ use Rattle.queue.proofs.several.put_one.Goals as goal
 
 pub returns-in_err-message-clause-unwritten : goal.returns-in_err-message-clause-unwritten
 returns-in_err-message-clause-unwritten c =
-    absurd (one_refused c.args.received.now.bytes.now c.args.received.now.place c.args.received.now.now_us c.args.received.now.ok c.requires.read
-    c.requires.one c.message.ensures _ (ap message_told c.in_err-message.was))
+    let r = c.args.received.now in
+    absurd (one_refused r.bytes.now r.place r.now_us r.ok c.requires.read c.requires.one c.message.ensures _ (ap message_told c.in_err-message.was))
 
 pub plan-plan-requires : goal.plan-plan-requires
 plan-plan-requires c = let r = c.args.received.now in one_within r.bytes.now r.place r.now_us r.ok c.requires.read c.requires.one (rw c.in_ok-message.was at c.message.ensures)
