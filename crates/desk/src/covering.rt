@@ -52,9 +52,10 @@ pub fn hub_witness(earlier: &[u8], later: &[u8], standard: bool) -> PairWitness
         };
     }
     let found = find_witness(earlier, later, standard, standard);
+    let name = found.name;
     PairWitness {
         number: 0,
         length: found.len,
-        name: found.name,
+        name,
     }
 }
