@@ -6,10 +6,9 @@ use Prim.Native.Nat.{ℕ}
 use lib.ListN.{length, take}
 use Rattle.io.specs.Counts.{IsPrefixLen}
 use Rattle.monitor.specs.declared.state.MqttMonitor.{MqttMonitor}
-use Rattle.queue.specs.Queue.{Wake, wake_of, records_of, sent_of, queue_end, queue_kept}
-use Rattle.queue.specs.declared.run.QueueEnd.{QueueEnd}
+use Rattle.queue.specs.Queue.{QueueEnd, Wake, wake_of, records_of, sent_of, queue_end, queue_kept}
 use Rattle.queue.proofs.Singly.{as_singly}
-use Rattle.std.proofs.Common.{Result, Ok, Err, ℤ}
+use Rattle.std.proofs.Common.{Result, Ok, ℤ}
 use Rattle.streams.proofs.StreamLaws.{stored}
 use Rattle.hubpackets.specs.Inspected.{end_to, records_to}
 

@@ -5,8 +5,7 @@ use Rattle.std.specs.Prelude.{Bool, List, [], ℕ, take}
 use Rattle.monitor.specs.declared.state.MqttMonitor.{MqttMonitor}
 use Rattle.settings.specs.Loaded.{LoadedSettings, loaded_of}
 use Rattle.settings.specs.SettingsText.{settings_of}
-use Rattle.queue.specs.Queue.{wake_of, queue_end, records_of, sent_of}
-use Rattle.queue.specs.declared.run.QueueEnd.{QueueEnd}
+use Rattle.queue.specs.Queue.{QueueEnd, wake_of, queue_end, records_of, sent_of}
 use Rattle.std.specs.Prelude.{Result, Ok, Err, ℤ}
 
 -- what the settings text loads to; where it could not be read, what no text at all does, which is refused

@@ -2,11 +2,12 @@
 ghost use Rattle.std.specs.Prelude.{◌≡◌, length, take};
 ghost use Rattle.io.specs.Counts.{IsPrefixLen};
 ghost use Rattle.streams.specs.Turns.{DoneWithin};
+ghost use Rattle.queue.specs.Queue.{ended};
 ghost use Rattle.settings.specs.Refused.{load_told};
 ghost use Rattle.hubpackets.specs.Inspected.{loaded_from, end_to, records_to};
 
 use monitor::state::MqttMonitor;
-use queue::run::{QueueEnd, run_packets};
+use queue::run::{Reached, RunEnd, run_packets};
 use settings::load::{Loaded, load_settings};
 use settings::refusal::Refused;
 
@@ -21,27 +22,24 @@ pub(crate) fn load_read(read: Result<usize, i32>, text: &[u8]) -> Result<Loaded,
     load_settings(&text[..n])
 }
 
-// The records of the capture that was read, at the beginning of `out`, and how its run ended.
+// The records of the capture that was read, at the beginning of `out`, and how its run ended; what the run leaves is in the lent monitor.
 pub(crate) fn run_read(
-    monitor: MqttMonitor,
+    monitor: &mut MqttMonitor,
     read: Result<usize, i32>,
     capture: &[u8],
     at: u64,
     ok: bool,
     out: &mut [u8],
-) -> QueueEnd
+) -> RunEnd
     requires { DoneWithin read (length capture.now) }
-    ensures end { result ≡ end_to monitor at ok (length out.old) read capture.now }
-    ensures counted { IsPrefixLen result.length out.new }
-    ensures records { take result.length out.new ≡ records_to monitor at ok (length out.old) read capture.now }
+    ensures end { ended result monitor.new ≡ end_to monitor.old at ok (length out.old) read capture.now }
+    ensures counted { IsPrefixLen result.reached.length out.new }
+    ensures records { take result.reached.length out.new ≡ records_to monitor.old at ok (length out.old) read capture.now }
 {
     let Ok(n) = read else {
-        return QueueEnd {
-            number: 0,
-            place: 0,
-            done: 0,
-            length: 0,
-            monitor,
+        return RunEnd {
+            outcome: Ok(()),
+            reached: Reached::START,
         };
     };
     run_packets(monitor, &capture[..n], at, ok, out)

@@ -137,20 +137,20 @@ fn tell(rt: &HostRuntime, capture: &mut [u8], at: u64, ok: bool) {
 }
 
 // Reads a capture, and writes the records of its messages under a monitor, up to the capture's end or to the packet at which the run ends; or says what failed.
-fn inspect(rt: &HostRuntime, monitor: MqttMonitor, capture: &mut [u8], at: u64, ok: bool) {
+fn inspect(rt: &HostRuntime, monitor: &mut MqttMonitor, capture: &mut [u8], at: u64, ok: bool) {
     let read = read_capture(rt, capture);
     if let Err(_) = read {
         return;
     }
     let mut out = records_buffer();
     let end = run_read(monitor, read, capture, at, ok, &mut out);
-    let written = output::write_all(&mut rt.stdout(), &out[..end.length]);
+    let written = output::write_all(&mut rt.stdout(), &out[..end.reached.length]);
     if let Err(error) = written {
         said::fail(rt, "hubpackets: the records were not written whole", error);
         return;
     }
-    if end.number != 0 {
-        stop(end.number, end.place);
+    if let Err(why) = end.outcome {
+        stop(why.number(), end.reached.place);
     }
 }
 
@@ -169,7 +169,7 @@ fn inspect_under(rt: &HostRuntime, capture: &mut [u8], at: u64, ok: bool) {
         return;
     }
     match load_read(read, &text) {
-        Ok(settings) => inspect(rt, settings.monitor, capture, at, ok),
+        Ok(mut settings) => inspect(rt, &mut settings.monitor, capture, at, ok),
         Err(refused) => refuse(refused.refusal.number(), refused.line),
     }
 }
