@@ -31,7 +31,9 @@ def depth(side, rules, topics):
     back = run_to(entry(f"^{side}_loop$"))
     top = register("$rsp") + 8
     if side == "hub":
-        run_to(run_to(entry("loops::inspections::readied")))
+        for _ in range(rules):  # each is added by a call of its own
+            added = run_to(entry("loops::inspections::add_pattern"))
+        run_to(added)
     else:
         run_to(entry("vs_mqtt_monitor::MqttMonitor::inspect"))
     place = register("$rsp")

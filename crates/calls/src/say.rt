@@ -11,6 +11,7 @@ pub fn say(s: &[u8]) {
 }
 
 // What belongs together is gathered here and written at once: a call of the system for each word would take most of the time. There is room for the longest record, a window with 16 stamps.
+// No heap, so an array and how much of it is used.
 #[derive(Drop)]
 pub struct Line {
     bytes: [u8; 512],

@@ -1,4 +1,5 @@
 // Two patterns, an earlier and a later: can the later one ever speak, and where (request C-20)? `standard` says which of the two matchers is asked.
+// `standard` is a flag, since C passes it.
 ghost use Rattle.std.specs.Prelude.{◌≡◌};
 ghost use Rattle.desk.specs.Covering.{pair_refusal, pair_covers, pair_witness};
 ghost use Rattle.laws.specs.Refusals.{refusal};
@@ -8,6 +9,7 @@ use topics::covering::{covers, find_witness};
 use topics::patterns::{PatternRefusal, check_pattern};
 
 // A name that only the later pattern matches, zeros after it. The length is 0 where there is none, and where `number` refuses a pattern.
+// A number beside values, since C reads it (include/hub.h).
 #[repr(C)]
 #[derive(Clone, Copy, Debug, PartialEq, Eq)]
 pub struct PairWitness {
@@ -52,9 +54,10 @@ pub fn hub_witness(earlier: &[u8], later: &[u8], standard: bool) -> PairWitness
         };
     }
     let found = find_witness(earlier, later, standard, standard);
+    let name = found.name;
     PairWitness {
         number: 0,
         length: found.len,
-        name: found.name,
+        name,
     }
 }

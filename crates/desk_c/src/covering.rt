@@ -1,4 +1,5 @@
 // Two patterns, an earlier and a later: can the later one ever speak, and where (request C-20)? `standard` says which of the two matchers is asked.
+// `standard` is a flag, since C passes it.
 ghost use Rattle.std.specs.Prelude.{◌≡◌};
 ghost use Rattle.desk.specs.Covering.{pair_covers, pair_witness};
 

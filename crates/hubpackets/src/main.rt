@@ -100,6 +100,7 @@ fn read_capture(rt: &HostRuntime, capture: &mut [u8]) -> Result<usize, i32>
 }
 
 // The lines of packet after packet, up to the capture's end or to the first that is refused.
+// Each packet says where the next one begins, so there is no range to go over.
 fn packets_of(rt: &HostRuntime, bytes: &[u8], at: u64, ok: bool, out: &mut [u8]) {
     let mut place: usize = 0;
     while place < bytes.len() {

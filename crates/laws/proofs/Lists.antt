@@ -1,13 +1,14 @@
 -- Laws of parts of lists and of lists with one element stored, whatever the elements are; and of bytes with zeros after them. `d` is what is read past a list's end. Assumes nothing.
 use mathlib.Core.Bool.{Bool, not}
-use mathlib.Core.List.{List}
+use mathlib.Core.List.{List, [], ◌∷◌, ◌++◌}
 use mathlib.Core.Path.{◌≡◌, sym, ◌∙◌}
-use Prim.Native.Nat.{ℕ, zero, suc, ◌-◌, ◌<◌, min}
+use Prim.Native.Nat.{ℕ, zero, suc, ◌+◌, ◌-◌, ◌<◌, ◌≤◌, min}
+use native.Mathlib.Numerals.{add-one}
 use native.Mathlib.Omega.{arith}
 use borrow.Author.Tests.{leb-true, leb-false, eqb-true, eqb-false, ltb-false}
 use lib.Dec.{eqb, leb, ltb}
 use lib.ListN.{length, take, drop, get_or, set, replicate, length-drop}
-use lib.Seq.{take_all, get_or-set_same, get_or-set_other}
+use lib.Seq.{take_all, take-suc, append_snoc, set_at, length-take-le, get_or-set_same, get_or-set_other}
 use Rattle.std.specs.List.{position, position_or_len}
 use Rattle.std.specs.Option.{unwrap_or}
 use Rattle.std.proofs.lemmas.List.Sums.{prefix_len-le-length}
@@ -59,3 +60,16 @@ module _ {A : Type 0} (d : A) (l : List A) (k : ℕ) (x : A) (h : k < length l) 
       (each (λ j v. k < j → j < n → R x v) (λ h m. absurd (omega arith)) (λ j e h m. after j h m) j)
       (λ i f. each (λ j v. i < j → j < n → R (get_or l i d) v) (λ h m. before i h m) (λ j e h m. rest i j f e h m) j)
       i
+
+-- bytes with zeros after them up to a size: one byte more
+pub padded_more : (size : ℕ) (p : List ℕ) (i : ℕ) → i < length p → i < size → set (take i p ++ replicate (size - i) 0) i (get_or p i 0) ≡ take (i + 1) p ++ replicate (size - (i + 1)) 0
+padded_more size p i h k =
+    let e : size - i ≡ suc (size - (i + 1)) = omega arith in
+    let more : take (i + 1) p ≡ take i p ++ (get_or p i 0 ∷ []) = rw (add-one) (take-suc p i 0 h) in
+    rw (e, set_at (take i p) 0 (replicate (size - (i + 1)) 0) (get_or p i 0) i (length-take-le i p (omega arith)))
+    (rw more (sym (append_snoc (take i p) (get_or p i 0) (replicate (size - (i + 1)) 0))))
+
+-- bytes, zeros after them up to a size: all of them
+pub padded_done : (size : ℕ) (p : List ℕ) (i : ℕ) → length p ≤ size → i ≡ length p → take i p ++ replicate (size - i) 0 ≡ take size p ++ replicate (size - length p) 0
+padded_done size p i h e =
+    let z : size - i ≡ size - length p = omega arith in rw (z, take_all i p (omega arith), take_all size p h)

@@ -1,5 +1,6 @@
 // Writers into a lent buffer. Each writes its text from `at` on and hands back the place after it.
 // What does not fit is cut off at the buffer's end, so every writer takes every input, and one writer follows another without a test between them.
+// `Display` and `write!` were tried: 5,491 instructions for a record that these write in 1,488 (docs/DESIGN-PASS.md).
 ghost use Rattle.std.specs.Prelude.{◌+◌, ◌%◌, ◌<◌, ◌≡◌, [], ◌∷◌};
 ghost use Rattle.lines.specs.Wrote.{Wrote};
 ghost use Rattle.lines.specs.Decimal.{decimal};

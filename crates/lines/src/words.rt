@@ -1,4 +1,5 @@
 // The words of a list spelled with bars, b"allow|block". Shared by the writer of words and the length of what it writes.
+// One text and no slice of slices: `words_of` and the claims on words (specs/Round.antt) read it so.
 ghost use Rattle.std.specs.Prelude.{◌≡◌};
 ghost use Rattle.lines.specs.Word.{word_text};
 

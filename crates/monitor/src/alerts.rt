@@ -35,6 +35,7 @@ pub struct MqttInspectResult {
 }
 
 // The alerts of one message, and the counters after them.
+// The count stands beside the alerts as in `MqttInspectResult`, which is made of them.
 #[derive(Clone, Copy, Debug, PartialEq, Eq)]
 pub struct Raised {
     pub count: u8,
@@ -61,6 +62,7 @@ pub fn severity_number(severity: AlertSeverity) -> u64
 }
 
 // By the kind alone: High are a CONNECT storm, a replaced bucket and a Publish with a zero, `+` or `#`; Low are QoS, payload and clock.
+// Promised for every number, so no enum of kinds.
 #[tactic(auto, unfolding(crate::specs::Alerts::severity_of))]
 pub fn severity_of(kind: u32) -> AlertSeverity
     ensures { result ≡ severity_of kind }

@@ -16,6 +16,7 @@ use topics::names::{
 };
 
 // How far a message came in the order of one inspection: it ended before rule choice, no rule took its topic, or the rule at a place did.
+// Three ends, and only one has a place: no `Option`.
 #[derive(Clone, Copy, Debug, PartialEq, Eq)]
 pub enum Stage {
     Early,

@@ -23,6 +23,7 @@ impl MqttMonitor {
     ghost use Rattle.monitor.specs.State.{matcher_of};
 
     /// Stores what a plan decided, and counts its message: the only place that changes the tables of an inspection.
+    /// A place past the end stores nothing (`stored_at`): a plan is public and promised for every value, so each place is tested here.
     #[tactic(auto, unfolding(crate::specs::Inspect::applied))]
     pub fn apply(&mut self, plan: &Plan)
         ensures { self.new ≡ applied self.old plan.now }

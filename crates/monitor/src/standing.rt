@@ -12,6 +12,7 @@ use tables::rules::MqttQoS;
 use tables::standing::{Opening, look_ahead};
 
 // A Publish is denied by `kind` before the opening and allowed from it on. `rate` above 0: the limiter counts it.
+// A kind's number, 0 for none, is what a person is told (docs/STANDING.md) and what `kind_at` compares.
 #[derive(Clone, Copy, Debug, PartialEq, Eq)]
 pub struct Outlook {
     pub kind: u32,
@@ -20,6 +21,7 @@ pub struct Outlook {
 }
 
 // What a Publish at a time would leave: the kind that denies it, 0 where it passes, the rate, and the tokens left.
+// A number, as in `Outlook`.
 #[derive(Clone, Copy, Debug, PartialEq, Eq)]
 pub struct Left {
     pub kind: u32,

@@ -32,6 +32,7 @@ pub struct MqttMonitor {
     pub total_alerts: u64,
 }
 
+// The next four are chains of one line: a trait with four impls, each with its definition, would be longer than they are.
 // All of these rules are such as `add_rule` leaves.
 fn rules_fine(rules: &[TopicRule]) -> bool
     ensures { result ≡ every rule_fine rules.now }

@@ -13,6 +13,7 @@ use crate::publish::{publish_built, publish_piece};
 use monitor::message::{MqttPacketType, TOPIC_MAX};
 
 // What a look at all pieces of a body gave: whether each was read and has a string for its topic, whether one has a topic of over 128 bytes, and how many there are.
+// Two tests and no refusal: 32 comes before 33, whichever piece shows it.
 #[derive(Clone, Copy, Debug, PartialEq, Eq)]
 pub struct Looked {
     pub sound: bool,
@@ -114,6 +115,7 @@ fn look_first() -> Looked
 }
 
 // A look at all filters of a body; behind one that could not be read there is none.
+// Each filter says where the next one begins, so there is no range to go over.
 fn look_at_filters(subscribe: bool, b: &[u8]) -> Looked
     ensures { result ≡ looked_at b.now (filters_of subscribe b.now) }
 {

@@ -14,7 +14,7 @@ pub struct Length {
 
 // A header: the packet's type, of which `Auth` is what MQTT 3.1.1 reserves, by either of its numbers, 0 and 15; its flags; and its body, which stands at from..to, from the packet's first byte.
 // Places, not a slice, as in the message that is made of it (`Within`, specs/Taken.antt).
-#[derive(Clone, Copy)]
+#[derive(Clone, Copy, Debug, PartialEq, Eq)]
 pub struct Header {
     pub packet_type: MqttPacketType,
     pub flags: u8,

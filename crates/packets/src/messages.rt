@@ -14,7 +14,7 @@ use tables::rules::qos_at;
 
 /// A message of a packet: the message as the monitor takes it; the places of its topic and of the inspected part of its payload in the bytes; and the step of the next one.
 // Places, not slices: `Within` (specs/Taken.antt) promises of `message_at` where they stand in the bytes.
-#[derive(Clone, Copy)]
+#[derive(Clone, Copy, Debug, PartialEq, Eq)]
 pub struct PacketMessage {
     pub msg: MqttMessage,
     pub topic_from: usize,

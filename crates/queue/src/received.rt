@@ -12,7 +12,7 @@ use packets::messages::{PacketMessage, message_at};
 use packets::packet::Packet;
 use packets::refusal::PacketRefusal;
 
-/// A packet that was read, at its place in the bytes of a run, with the time and the verdict of all messages.
+// A packet that was read, at its place in the bytes of a run, with the time and the verdict of all messages.
 #[derive(Clone, Copy)]
 pub(crate) struct Received<'a> {
     pub(crate) bytes: &'a [u8],
@@ -31,6 +31,7 @@ impl<'a> Received<'a> {
     }
 
     // The bytes of a message's topic, and of the inspected part of its payload.
+    // A message is a public record, so that it lies within is a clause and no invariant.
     fn topic(&self, message: &PacketMessage) -> &[u8]
         requires { Within self.now.bytes.now self.now.place (message_told (Ok message.now)) }
         ensures { result.now ≡ topic_bytes self.now.bytes.now (message_told (Ok message.now)) }
@@ -54,8 +55,8 @@ impl<'a> Received<'a> {
         m.plan_for(&message.msg, self.topic(message), self.payload(message))
     }
 
-    #[tactic(auto, unfolding(crate::specs::Several::light_for))]
     // What it decides of a message that asks no table, with other counters than its own.
+    #[tactic(auto, unfolding(crate::specs::Several::light_for))]
     pub(crate) fn plan_light(
         &self,
         m: &MqttMonitor,

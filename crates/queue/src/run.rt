@@ -50,6 +50,7 @@ impl RunEnd {
 }
 
 // The packet at the place that a run has reached: all of its messages are done, or none is.
+// That the state is well formed stands in a clause: an invariant of `MqttMonitor` would exclude states that number 10 refuses.
 fn run_packet(
     m: &mut MqttMonitor,
     bytes: &[u8],
@@ -105,6 +106,7 @@ pub fn run_packets(
             reached,
         };
     }
+    // Each packet says where the next one begins, so there is no range to go over.
     while reached.place < bytes.len() {
         match run_packet(m, bytes, now_us, ok, reached, out) {
             Ok(next) => reached = next,

@@ -7,7 +7,7 @@ use topics::{hashes, matching, names, patterns, payload};
 // A 32-bit hash as recorded: eight hex digits.
 fn put_hash(out: &mut [u8], at: usize, hash: u32) -> usize {
     let mut digits = [0u8; 16];
-    let k = io::hex(hash as u64, 8, &mut digits);
+    let k = io::hex(u64::from(hash), 8, &mut digits);
     put::put_bytes(out, at, &digits[..k])
 }
 

@@ -18,11 +18,10 @@ const STDIN_FILENO: i32 = 0;
 
 // The kind of a line: its first field, if that is one byte.
 fn kind_of(line: &[u8]) -> u8 {
-    let name = before(line, b' ');
-    if name.len() != 1 {
-        return b'?';
+    match before(line, b' ') {
+        [kind] => *kind,
+        _ => b'?',
     }
-    name[0]
 }
 
 // How many fields of a kind are the question.
@@ -75,7 +74,7 @@ fn place_of(kind: u8) -> usize {
 // `n` more at place `k`.
 fn add(counts: &mut [u64; 16], k: usize, n: u64) {
     if k < 16 {
-        counts[k] = std::num::wrapping_add_u64(counts[k], n);
+        counts[k] = counts[k].wrapping_add(n);
     }
 }
 
@@ -85,16 +84,15 @@ fn replay(questions: &[u8], text: &mut [u8], out: &mut [u8]) {
     let mut differ = [0u64; 16];
     let mut number: u64 = 0;
     let mut left = questions;
-    while 0 < left.len() {
+    while !left.is_empty() {
         number += 1;
         let line = before(left, b'\n');
         let k = place_of(kind_of(line));
         add(&mut asked, k, 1);
         add(&mut differ, k, judged(number, line, text, out));
-        let next = after(left, b'\n');
-        left = next;
+        left = after(left, b'\n');
     }
-    say_all(asked, differ);
+    say_all(&asked, &differ);
 }
 
 // Room for all questions.

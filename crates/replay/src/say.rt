@@ -38,15 +38,13 @@ fn say_counts(name: &[u8], asked: u64, differ: u64) {
 }
 
 // A line for each kind, and the totals.
-pub fn say_all(asked: [u64; 16], differ: [u64; 16]) {
+pub fn say_all(asked: &[u64; 16], differ: &[u64; 16]) {
     let mut all: u64 = 0;
     let mut wrong: u64 = 0;
-    let mut k = 0;
-    while k < 16 {
+    for k in 0..16 {
         say_counts(&[b"mfdscpvrbx$thlo?"[k]], asked[k], differ[k]);
-        all = std::num::wrapping_add_u64(all, asked[k]);
-        wrong = std::num::wrapping_add_u64(wrong, differ[k]);
-        k += 1;
+        all = all.wrapping_add(asked[k]);
+        wrong = wrong.wrapping_add(differ[k]);
     }
     say_counts(b"all", all, wrong);
 }

@@ -13,10 +13,8 @@ fn repeat(s: &mut [u8], from: usize, to: usize, back: usize) {
     if from < back {
         return;
     }
-    let mut i = from;
-    while i < to && i < s.len() {
+    for i in from..to.min(s.len()) {
         s[i] = s[i - back];
-        i += 1;
     }
 }
 
@@ -58,7 +56,7 @@ fn put_number(out: &mut [u8], at: usize, n: u64) -> usize {
 // The lent bytes up to `to` as recorded, and behind them how the trace ended; the place after that.
 fn put_end(out: &mut [u8], to: usize, end: TraceEnd) -> usize {
     swap(out, to, b'\n', b';');
-    let number = put_number(out, to, end.number as u64);
+    let number = put_number(out, to, u64::from(end.number));
     let line = put_number(out, number, end.line);
     put_number(out, line, end.length as u64)
 }
@@ -69,16 +67,9 @@ fn answer_text(text: &[u8], out: &mut [u8]) -> usize {
     put_end(out, end.length, end)
 }
 
-// Dots in all of a buffer.
-fn put_dots(out: &mut [u8]) {
-    let first = put::put_byte(out, 0, b'.');
-    let all = out.len();
-    repeat(out, first, all, 1);
-}
-
 // What the port says to a text in a room of so many bytes, all of which are shown.
 fn answer_in_room(text: &[u8], fields: &[u8], out: &mut [u8]) -> usize {
-    put_dots(out);
+    out.fill(b'.');
     let room = size(fields, 1, out);
     let end = run::run_trace(text, &mut out[..room]);
     put_end(out, room, end)

@@ -9,7 +9,7 @@ use tables::rules::{QosPolicy, TopicAction, action_at, policy_at};
 pub const PATTERN_ROOM: usize = 128;
 
 // What a rule's four lines gave; the pattern's hex stands at pattern_from..pattern_to of the text, its bytes in a lent buffer.
-#[derive(Clone, Copy)]
+#[derive(Clone, Copy, Debug, PartialEq, Eq)]
 pub struct RuleLines {
     pub number: u32,
     pub line: u32,

@@ -10,7 +10,7 @@ use crate::write::write_settings;
 // What C reads of how it ended: 0, with the last line and how many bytes were written; or a number, with the line of the text that it refuses, which is the last one for
 // 37, and 0 where it is of none (27, a form that is asked for and not known, 28).
 #[repr(C)]
-#[derive(Drop)]
+#[derive(Clone, Copy, Debug, PartialEq, Eq)]
 pub struct SettingsEnd {
     pub number: u32,
     pub line: u64,
@@ -45,6 +45,7 @@ fn line_for(line: u64, refusal: SettingsRefusal) -> u64
 }
 
 // The text's settings in the form that is asked for, 0 for its own, at the beginning of a lent buffer. Whatever refuses it, nothing is written.
+// A number, since it answers for every one: 29 where the form is not known.
 pub fn convert_settings(text: &[u8], form: u32, out: &mut [u8]) -> Result<Converted, Refused>
     ensures answer { end_told result ≡ convert_end form (length out.old) text.now }
     ensures buffer { out.new ≡ convert_kept form out.old text.now }

@@ -45,8 +45,8 @@ pub fn tell_dead(text: &[u8], out: &mut [u8]) -> SettingsTold
     }
 }
 
-#[tactic(auto, unfolding(crate::specs::Dead::is_pair))]
 // Two rules of a text, an earlier and a later, by their numbers from 1.
+#[tactic(auto, unfolding(crate::specs::Dead::is_pair))]
 fn is_pair(count: u64, later: u64, earlier: u64) -> bool
     ensures { result ≡ is_pair count later earlier }
 {

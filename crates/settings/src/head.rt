@@ -15,7 +15,7 @@ use tables::rules::{TopicAction, action_at, action_number};
 use topics::matching::Matching;
 
 // Their values.
-#[derive(Clone, Copy)]
+#[derive(Clone, Copy, Debug, PartialEq, Eq)]
 pub struct HeadValues {
     pub form: u32,
     pub default_action: TopicAction,
@@ -26,7 +26,7 @@ pub struct HeadValues {
 }
 
 // What they gave: the values, how many lines these are and the place after them, where the rules begin.
-#[derive(Clone, Copy)]
+#[derive(Clone, Copy, Debug, PartialEq, Eq)]
 pub(crate) struct HeadFound {
     pub values: HeadValues,
     pub line: u64,

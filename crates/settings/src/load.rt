@@ -9,7 +9,7 @@ use crate::refusal::Refused;
 use monitor::state::MqttMonitor;
 
 // What a text loaded to: the monitor, the form of its text and the last line.
-#[derive(Drop)]
+#[derive(Clone, Debug, PartialEq, Eq, Drop)]
 pub struct Loaded {
     pub line: u64,
     pub form: u32,

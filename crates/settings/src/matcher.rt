@@ -5,6 +5,7 @@ ghost use Rattle.settings.specs.SettingsText.{matching_number, matching_at};
 use topics::matching::Matching;
 
 // A matcher's place.
+// `topics` knows no text, so the numbers are here.
 pub(crate) fn matching_number(matching: Matching) -> u8
     ensures { result ≡ matching_number matching }
 {
@@ -15,6 +16,7 @@ pub(crate) fn matching_number(matching: Matching) -> u8
 }
 
 // The matcher at its place.
+// The definition answers for every number, so no `TryFrom`.
 pub(crate) fn matching_at(k: u64) -> Matching
     ensures { result ≡ matching_at k }
 {

@@ -13,7 +13,8 @@ use tables::rules::{RULES, TopicRule};
 const TEXT_MAX: usize = 65536;
 
 // What a text gave: the settings, the last line, and `rules_from`, where the first rule's lines begin.
-#[derive(Clone, Copy)]
+// A place and no slice: request C-21 reads the text from there (docs/DECISIONS.md, 37).
+#[derive(Clone, Copy, Debug, PartialEq, Eq)]
 pub struct SettingsFound {
     pub line: u64,
     pub values: HeadValues,

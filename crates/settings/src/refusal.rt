@@ -70,8 +70,8 @@ pub struct Refused {
     pub line: u64,
 }
 
-#[tactic(auto, unfolding(crate::specs::Refused::refusal_at))]
 // The refusal of a line that was refused by a number: `lines` gives 21 to 26, and the form's line 29.
+#[tactic(auto, unfolding(crate::specs::Refused::refusal_at))]
 fn refusal_at(number: u32) -> SettingsRefusal
     ensures { result ≡ refusal_at number }
 {

@@ -13,7 +13,7 @@ use rules_text::read::{PATTERN_ROOM, read_rule};
 use tables::rules::{RULES, TopicRule, plan_rule};
 
 // What they gave: the table, the lines read so far and the place after them.
-#[derive(Clone, Copy)]
+#[derive(Clone, Copy, Debug, PartialEq, Eq)]
 pub(crate) struct RulesFound {
     pub line: u64,
     pub next: usize,

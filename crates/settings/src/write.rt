@@ -11,8 +11,9 @@ use crate::rules::{counted, put_rules, rules_len};
 use monitor::state::MqttMonitor;
 use topics::matching::Matching;
 
-#[tactic(auto, unfolding(crate::specs::SettingsText::form_refusal))]
 // A form's refusal for settings with this matcher.
+// Any number may be asked for.
+#[tactic(auto, unfolding(crate::specs::SettingsText::form_refusal))]
 fn check_form(form: u32, matching: Matching) -> Result<(), SettingsRefusal>
     ensures { refusal refusal_number result ≡ form_refusal form matching }
 {

@@ -3,6 +3,7 @@ ghost use Rattle.std.specs.Prelude.{◌≡◌, ◌≤◌, ◌-◌, ◌++◌, len
 ghost use Rattle.slices.specs.Bytes.{same, begins, has, count_of, to_byte, place_in, find_byte};
 
 // Equal bytes, equally many.
+// It stays beside `==` as a word with a promise of its own (docs/BY-FUNCTION.md).
 #[tactic(auto, using(crate::proofs::bytes::StdLaws::same_eq))]
 pub fn same_bytes(a: &[u8], b: &[u8]) -> bool
     ensures { result ≡ same a.now b.now }

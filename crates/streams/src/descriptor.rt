@@ -12,7 +12,7 @@ use std_io::io::last_error;
 // A name that nothing has: to ask for it leaves in errno what only a name can give, ENOTDIR, or ENOENT where there is no /dev/null.
 const BELOW_A_FILE: &str = "/dev/null/none";
 
-// How the read that comes next will end, where it is known by now.
+// How the read that comes next will end, where it is known by now. Not `Option<Result<(), i32>>`, which says the same without the three names.
 #[derive(Clone, Copy, Debug, PartialEq, Eq)]
 enum Next {
     Unknown,

@@ -8,6 +8,7 @@ use std::io::Read;
 use std::thread::yield_now;
 
 // Reads until the input ends or `buf` is full: so many bytes and all of them, or errno where it failed on the way. A read that was interrupted, or that found a pipe empty, is made again.
+// How much one call moves is the system's word, so the loop goes by what is left.
 pub fn read_all<R: Read>(from: &mut R, buf: &mut [u8]) -> Result<usize, i32>
     ensures { DoneWithin result (length buf.new) }
 {

@@ -8,6 +8,7 @@ use std::io::Write;
 use std::thread::yield_now;
 
 // Writes all of `buf`: so many bytes, or errno where it failed on the way. A write that was interrupted, or that found a pipe full, is made again, and one that took a part is followed by the rest.
+// How much one call moves is the system's word, so the loop goes by what is left.
 pub fn write_all<W: Write>(to: &mut W, buf: &[u8]) -> Result<usize, i32>
     ensures { Whole result (length buf.now) }
 {

@@ -4,7 +4,7 @@ ghost use Rattle.streams.specs.Turns.{turn_of, missed_of, Fits};
 
 use std::io::{Error, Result};
 
-// The call moved so many bytes; or it did nothing this time, and is to be made again; or it failed, with errno.
+// The call moved so many bytes; or it did nothing this time, and is to be made again; or it failed, with errno. Not `Result<Option<usize>, i32>`, which says the same without the names.
 #[derive(Clone, Copy, Debug, PartialEq, Eq)]
 pub enum Turn {
     Moved(usize),

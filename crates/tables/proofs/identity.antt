@@ -1,2 +1,3 @@
+pub mod AgreeLaws
 pub mod IdentityLaws
 pub mod PrefixLaws

@@ -90,6 +90,7 @@ pub fn action_at(k: u64) -> TopicAction
 }
 
 // A policy's place in `any|min0|min1|min2|only0|only1|only2`.
+// A policy has a level in it, so no cast.
 pub fn policy_number(policy: QosPolicy) -> u8
     ensures { result ≡ policy_number policy }
 {

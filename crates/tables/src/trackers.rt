@@ -173,6 +173,7 @@ pub fn ewma_update(
 }
 
 // The place of the tracker that a remove call removes (000 `remove_ewma_tracker`).
+// As `removed_bucket`: one chain over another table, each named in docs/BY-FUNCTION.md.
 pub fn removed_tracker(trackers: &[EwmaTracker; TRACKERS], id: &Id) -> Option<usize>
     ensures { result ≡ placed 16 (removed_tracker id.now trackers.now) }
 {

@@ -11,8 +11,8 @@ pub const WINDOWS: usize = 16;
 
 pub const STAMPS: usize = 16;
 
-// How many stamps of the ring count is a number beside it: number 10 refuses states in which it is over 16, which a type would exclude. `active` stays beside it: `calls`
-// sets and shows records that are not live (crates/calls/stdin), and the three tables share the trait `Record`.
+// How many stamps of the ring count is a number beside it: number 10 refuses states in which it is over 16, which a type would exclude. `active` stays, though no
+// script sets it: the three tables share the trait `Record`, its searches and number 10's test of a record that is not live (`window_fine`), and an `Option` here alone is no plainer.
 #[derive(Clone, Copy, Debug, PartialEq, Eq)]
 pub struct ClientStormEntry {
     pub client_hash: u32,

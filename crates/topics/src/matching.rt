@@ -1,5 +1,6 @@
 // The two matchers (document 01, "Topics, level by level"; 000 `topic_matches`; request C-15). One function serves both by two flags: `empty_last`, under which a `+` takes an empty
 // level that is the topic's last, and `dollar`, under which a leading wildcard takes no name that begins with a dollar sign. The port has neither, the standard both.
+// Two flags and not one choice: `covers` is proved exact for all four (specs/Covered.antt).
 ghost use Rattle.std.specs.Prelude.{◌≡◌, ◌+◌, ◌-◌, ◌≤◌, ◌&&◌, length, drop};
 ghost use Rattle.topics.specs.Matching.{starts_wild, dollar_apart, takes_none, takes_end, match_bytes, matches_with, is_standard, matches_by, port_matches, standard_matches, match_number};
 
@@ -14,7 +15,7 @@ pub enum Matching {
     Standard,
 }
 
-// What the standard matcher answers.
+// What the standard matcher answers. Three cases by name, not `Option<bool>`: `match_number` and the claims on it (theorems/specs/Corners.antt, ShutOut.antt) read them.
 #[derive(Clone, Copy, Debug, PartialEq, Eq)]
 pub enum StandardMatch {
     Yes,
@@ -118,8 +119,8 @@ pub fn topic_matches(topic: &[u8], pattern: &[u8]) -> bool
     matches_with(topic, pattern, false, false)
 }
 
-#[tactic(auto, unfolding(crate::specs::Matching::standard_matches))]
 // The standard: MQTT 3.1.1 section 4.7, for a pattern that `add_rule` takes and a name of at least 1 byte.
+#[tactic(auto, unfolding(crate::specs::Matching::standard_matches))]
 pub fn standard_matches(name: &[u8], pattern: &[u8]) -> StandardMatch
     ensures { result ≡ standard_matches name.now pattern.now }
 {

@@ -2,8 +2,8 @@
 ghost use Rattle.std.specs.Prelude.{◌≡◌, [], ◌∷◌};
 ghost use Rattle.topics.specs.Names.{is_broad, starts_with_dollar, bad_publish};
 
-#[tactic(auto, unfolding(slices::specs::Bytes::same))]
 // A Subscribe to one of these three takes a whole broker.
+#[tactic(auto, unfolding(slices::specs::Bytes::same))]
 pub fn is_broad_wildcard_subscribe(topic: &[u8]) -> bool
     ensures { result ≡ is_broad topic.now }
 {
@@ -17,8 +17,8 @@ pub fn starts_with_dollar(topic: &[u8]) -> bool
     matches!(topic, [b'$', ..])
 }
 
-#[tactic(auto, using(crate::proofs::names::NameLaws::bad_one))]
 // A byte that no Publish may carry.
+#[tactic(auto, using(crate::proofs::names::NameLaws::bad_one))]
 fn is_bad_byte(b: u8) -> bool
     ensures { result ≡ bad_publish (b ∷ []) }
 {

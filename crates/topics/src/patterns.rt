@@ -70,8 +70,8 @@ impl PatternRefusal {
     }
 }
 
-#[tactic(auto, unfolding(crate::specs::Patterns::pattern_refusal))]
 /// Whether a pattern is one that a rule may have: what `add_rule`, number 10 and the standard matcher's domain go by.
+#[tactic(auto, unfolding(crate::specs::Patterns::pattern_refusal))]
 pub fn check_pattern(pattern: &[u8]) -> Result<(), PatternRefusal>
     ensures { refusal pattern_number result ≡ pattern_refusal pattern.now }
 {

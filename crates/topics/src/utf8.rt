@@ -4,6 +4,7 @@ ghost use Rattle.topics.specs.Utf8.{is_scalar, broken, between, inside, begun, c
 
 // Where a decoder stands: inside a character, `left` bytes of which are to come, `value` being its number so far and `least` the least number that needs so
 // many bytes; between two characters, with `left` 0; or past a byte that is no UTF-8, not `fine`.
+// One record and no enum: the laws of decoding (proofs/utf8) speak of its fields.
 #[derive(Clone, Copy, Debug, PartialEq, Eq)]
 pub struct Decoding {
     pub fine: bool,

@@ -15,6 +15,7 @@ pub enum RecordRefusal {
 }
 
 /// What the closing lines say: how the trace ended, with its last or refused line, and how many messages and alerts there were.
+/// A number, since `put_closing` is promised for every one.
 #[derive(Clone, Copy, Debug, PartialEq, Eq)]
 pub struct Closing {
     pub number: u32,

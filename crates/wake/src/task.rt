@@ -10,6 +10,7 @@ use trace::seen::see_all;
 
 // How a run ended: 0 where it is whole, else the number that ended it, with the place of the packet at which it ended; how many messages were done, and how many bytes their records are; and the
 // monitor's two counts afterwards, the trace's messages among them.
+// A number beside values, since C reads it (include/hub.h).
 #[repr(C)]
 #[derive(Clone, Copy, Debug, PartialEq, Eq)]
 pub struct QueueRun {
@@ -35,9 +36,9 @@ fn told(number: u32, reached: Reached, m: &MqttMonitor) -> QueueRun
     }
 }
 
-#[tactic(auto, unfolding(crate::specs::Task::task_end, crate::specs::Task::task_kept))]
 // The packets of a run with one time and one verdict, after the messages of a trace, whose rules are matched as the Rust does. The records go to the beginning of the caller's buffer. A trace that
 // is refused gives its number, with place 0 and no message done.
+#[tactic(auto, unfolding(crate::specs::Task::task_end, crate::specs::Task::task_kept))]
 pub fn hub_queue(trace: &[u8], at: u64, clock_ok: bool, packets: &[u8], out: &mut [u8]) -> QueueRun
     ensures answer { result ≡ task_end trace.now (wake_of packets.now at clock_ok (length out.old)) }
     ensures buffer { out.new ≡ task_kept trace.now (wake_of packets.now at clock_ok (length out.old)) out.old }

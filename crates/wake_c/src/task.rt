@@ -5,8 +5,6 @@ ghost use Rattle.wake.specs.Task.{task_end, task_kept};
 
 use wake::task::QueueRun;
 
-// The packets of a run with one time and one verdict, after the messages of a trace, whose rules are matched as the Rust does. The records go to the beginning of the caller's buffer. A trace that
-// is refused gives its number, with place 0 and no message done.
 #[unsafe(no_mangle)]
 pub extern "C" fn hub_queue(
     trace: &[u8],
