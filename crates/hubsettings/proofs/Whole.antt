@@ -11,7 +11,7 @@ use Rattle.settings.specs.Told.{told_text, turned_text, told_room, told_end, tur
 use Rattle.settings.proofs.dead.ToldDead.{dead_long, pair_long}
 use Rattle.settings.proofs.told.TellLaws.{told_long}
 use Rattle.settings.proofs.told.TurnLaws.{turned_long}
-use Rattle.std.proofs.Common.{Result, Ok, Err, ℤ}
+use Rattle.std.proofs.Common.{Result, Ok, ℤ}
 use Rattle.streams.proofs.StreamLaws.{stored}
 use Rattle.hubsettings.specs.Answered.{answer_to, dead_to, pair_to, turn_to, turn_end}
 

@@ -13,7 +13,7 @@ use Rattle.trace.proofs.Bound.{trace_enough}
 use Rattle.io.specs.Counts.{IsPrefixLen}
 use Rattle.hubtrace.specs.Answered.{answer_to, standing_after}
 use Rattle.streams.proofs.StreamLaws.{stored}
-use Rattle.std.proofs.Common.{Result, Ok, Err, ℤ}
+use Rattle.std.proofs.Common.{Result, Ok, ℤ}
 
 module _ (matching : Matching) (d s : List ℕ) (h : enough ≡ length d) where
   whole : IsPrefixLen (trace_end matching (length d) s).length (trace_kept matching d s) × (take (trace_end matching (length d) s).length (trace_kept matching d s) ≡ trace_text matching s)

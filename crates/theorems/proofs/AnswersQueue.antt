@@ -1,5 +1,8 @@
 -- One answer for every public function of `queue`, and nothing asked of its caller (specs/One.antt). Assumes nothing.
+use mathlib.Core.List.{List}
 use mathlib.Core.Path.{sym, ◌∙◌}
+use Prim.Native.Nat.{ℕ}
+use Rattle.monitor.specs.declared.state.MqttMonitor.{MqttMonitor}
 use Rattle.queue.proofs.RefusalLaws.{ended_once}
 use Rattle.queue.specs.contracts.refusal.QueueRefusal.number as refusal-QueueRefusal-number
 use Rattle.queue.proofs.refusal.QueueRefusal.number.Reads as refusal-QueueRefusal-number-reads
@@ -21,7 +24,7 @@ one-run-RunEnd-number κs a x y e f p q = p ∙ sym q
 pub any-run-RunEnd-number : Any run-RunEnd-number.ended run-RunEnd-number-reads.Asked
 any-run-RunEnd-number κs a = tt
 
-pub one-run-run_packets : OneLeft run-run_packets.ended run-run_packets-reads.Post (λ κs e. (e.0.now, e.1.1.1.1.0.now))
+pub one-run-run_packets : OneLeft run-run_packets.ended run-run_packets-reads.Post {L = MqttMonitor × List ℕ} (λ κs e. (e.0.now, e.1.1.1.1.0.now))
 one-run-run_packets κs a x y e f p q =
     let h = ended_once x y e.0.now f.0.now (p.0 ∙ sym q.0) in (h.0, rw (h.1, p.1, q.1))
 
