@@ -1,5 +1,5 @@
 -- One answer for every public function of `tables`, and nothing asked of its caller (specs/One.antt). Assumes nothing.
-use mathlib.Core.Path.{◌≡◌, refl, sym, ◌∙◌}
+use mathlib.Core.Path.{refl, sym, ◌∙◌}
 use Rattle.tables.proofs.rules.PlanLaws.{told_once}
 use Rattle.tables.specs.contracts.buckets.RateBucket.try_consume as buckets-RateBucket-try_consume
 use Rattle.tables.proofs.buckets.RateBucket.try_consume.Reads as buckets-RateBucket-try_consume-reads

@@ -2,10 +2,10 @@
 -- leaves it without raises the budget by one whole bucket (proofs/Budget.antt). Every other call leaves the buckets as they are. The run before the window brings the invariant to the
 -- window's first message, where counting begins anew with one whole bucket, and at its last message what was used is at most that bucket, one for each removal that was felt, and
 -- rate x D. Assumes nothing.
-use mathlib.Core.Bool.{Bool, true, false, not, ◌&&◌, false≢true}
+use mathlib.Core.Bool.{Bool, true, not, ◌&&◌, false≢true}
 use mathlib.Core.List.{List, [], ◌∷◌, ◌++◌, append_assoc}
 use mathlib.Core.Path.{◌≡◌, refl, ap, ◌∙◌}
-use Prim.Native.Nat.{ℕ, ◌+◌, ◌-◌, ◌*◌, ◌≤◌}
+use Prim.Native.Nat.{ℕ, ◌+◌, ◌*◌, ◌≤◌}
 use native.Mathlib.Nat.{add-zero, sub-add_cancel}
 use native.Mathlib.Omega.{arith}
 use borrow.Author.Tests.{lt-ltb, ltb-true}

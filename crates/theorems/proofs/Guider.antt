@@ -1,8 +1,8 @@
 -- The guider's runs, by computation; and that a stretch which leaves no room is not among those of the one at 1.2 s. Assumes nothing.
 use mathlib.Core.Bool.{true, false}
-use mathlib.Core.List.{List, [], ◌∷◌, ◌++◌}
+use mathlib.Core.List.{[], ◌∷◌, ◌++◌}
 use mathlib.Core.Path.{◌≡◌, refl}
-use Prim.Native.Nat.{ℕ, ◌≤◌}
+use Prim.Native.Nat.{◌≤◌}
 use native.Mathlib.Omega.{arith}
 use lib.ListN.{length}
 use Rattle.laws.specs.Lists.{every}
@@ -21,7 +21,7 @@ use Rattle.monitor.specs.Calls.{fresh, add_rule}
 use Rattle.monitor.specs.Gate.{ruling_of, gate_after, gate_of}
 use Rattle.monitor.specs.Inspect.{applied, inspect_refusal, inspect_with}
 use Rattle.monitor.specs.Plan.{seen_of, spent_of, fed_of, denial_of, plan_from, plan_of}
-use Rattle.monitor.specs.Runs.{Call, after_by}
+use Rattle.monitor.specs.Runs.{after_by}
 use Rattle.monitor.specs.State.{well_formed, matcher_of}
 use Rattle.theorems.specs.Guider.{lossy_spend, lossy_decide, lossy_plan, lossy, guides, every400ms, guider, verdicts, Guider}
 use Rattle.theorems.specs.LowerExact.{ExactBy}

@@ -1,7 +1,7 @@
 -- The two lower halves of demand 3, which follow from the exact one and the upper half (proofs/Follows.antt), under any matcher. Assumes nothing.
-use mathlib.Core.Bool.{Bool, ◌&&◌}
-use mathlib.Core.List.{List, [], ◌∷◌, ◌++◌}
-use mathlib.Core.Path.{◌≡◌, refl}
+use mathlib.Core.Bool.{Bool}
+use mathlib.Core.List.{List, ◌∷◌, ◌++◌}
+use mathlib.Core.Path.{refl}
 use Prim.Native.Nat.{ℕ}
 use Rattle.laws.proofs.Cases.{by}
 use Rattle.tables.specs.declared.identity.Id.{Id}

@@ -14,7 +14,7 @@ use Rattle.monitor.proofs.Replies.{run_formed, after_two, replies_two}
 use Rattle.packets.proofs.messages.LeftLaws.{AllAt}
 use Rattle.queue.specs.Queue.{Wake, sent_of, queue_end}
 use Rattle.queue.proofs.Singly.{as_singly, sent_exact, sent_at}
-use Rattle.theorems.specs.Queued.{sent_by, told_by, left_by, InTurn, nothing, single, later, QueuedLimits}
+use Rattle.theorems.specs.Queued.{sent_by, told_by, left_by, InTurn, nothing, later, QueuedLimits}
 use Rattle.theorems.specs.Run as run
 use Rattle.theorems.specs.Run.{time, InOrder}
 use Rattle.theorems.proofs.Printed.{shipped_limits}

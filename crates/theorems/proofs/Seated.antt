@@ -1,6 +1,6 @@
 -- Runs in which no more than 32 identities have reached the limiter: every call keeps `Seats` (proofs/Seats.antt), so that a first message finds a free place and passes.
 -- Assumes nothing.
-use mathlib.Core.Bool.{Bool, true, cond, ◌&&◌}
+use mathlib.Core.Bool.{Bool, true, cond}
 use mathlib.Core.List.{List, [], ◌∷◌}
 use mathlib.Core.Path.{◌≡◌, refl, ◌∙◌}
 use Prim.Native.Nat.{ℕ, ◌≤◌}

@@ -17,11 +17,10 @@ use Rattle.tables.specs.Buckets.{no_bucket, holds_bucket, spend, made}
 use Rattle.tables.specs.Identity.{is_of}
 use Rattle.tables.specs.declared.identity.Id.{Id}
 use Rattle.tables.specs.declared.buckets.RateBucket.{RateBucket}
-use Rattle.tables.proofs.buckets.BucketLaws.{keeps}
 use Rattle.tables.proofs.identity.IdentityLaws.{OfTopic, of_true, is_of_refl}
-use Rattle.tables.proofs.buckets.StepLaws.{bucket_at, time_at, Absent, Seat, free, worn, first, Step, hit, put}
+use Rattle.tables.proofs.buckets.StepLaws.{bucket_at, Absent, Seat, free, worn, first, Step, hit, put}
 use Rattle.theorems.specs.Run.{is_among, noted}
-use Rattle.theorems.proofs.Holders.{clash, Named, same_holder, held_live, no_holder, made_holder, not_mine, mine}
+use Rattle.theorems.proofs.Holders.{clash, same_holder, held_live, no_holder, made_holder}
 
 -- an identity is in a table
 abbrev pub Present : Id → List RateBucket → Type 0

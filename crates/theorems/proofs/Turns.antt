@@ -1,6 +1,6 @@
 -- A run seen from the buckets: each call leaves them as they are, or is one step of the limiter. Rules, and so the rate of each call, stay what they were at the run's
 -- start. Assumes nothing.
-use mathlib.Core.Bool.{Bool, true, false, false≢true}
+use mathlib.Core.Bool.{Bool, false, false≢true}
 use mathlib.Core.List.{List, [], ◌∷◌}
 use mathlib.Core.Path.{◌≡◌, refl, sym, ◌∙◌}
 use Prim.Native.Nat.{ℕ, ◌<◌}
