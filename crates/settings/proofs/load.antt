@@ -1,1 +1,1 @@
-pub mod LoadedLaws
+mod LoadedLaws
