@@ -1,1 +1,1 @@
-mod LoadedLaws
+pub mod LoadedLaws

@@ -5,6 +5,7 @@ use Rattle.std.specs.Prelude.{ℕ, cond, eqb, Result, Ok, Err}
 use Rattle.topics.specs.declared.matching.Matching.TheVariants.{Port}
 use Rattle.tables.specs.declared.rules.TopicAction.TheVariants.{Block}
 use Rattle.monitor.specs.Calls.{fresh}
+use Rattle.monitor.specs.State.{with_rules, with_settings}
 use Rattle.monitor.specs.declared.state.MqttMonitor.{MqttMonitor}
 use Rattle.settings.specs.Kept.{HeadLines, RulesLines, SettingsRead, head_stopped, rules_stopped, not_read}
 use Rattle.settings.specs.Loaded.{LoadedSettings, Written, unwritten}
@@ -104,6 +105,11 @@ found_told f =
 abbrev pub read_told : Result SettingsFound Refused → SettingsRead
 read_told (Ok f) = found_told f
 read_told (Err e) = not_read (refusal_number e.refusal) e.line
+
+-- a fresh monitor with settings that were read
+abbrev pub monitor_with : SettingsFound → MqttMonitor
+monitor_with f =
+    with_settings (with_rules (fresh f.values.matching f.values.default_action) f.rules f.values.rules) f.values.threshold f.values.window
 
 -- a load: what is refused leaves no monitor, and to the definition that is a fresh one that denies all
 abbrev pub load_told : Result Loaded Refused → LoadedSettings

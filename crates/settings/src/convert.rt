@@ -3,7 +3,8 @@ ghost use Rattle.std.specs.Prelude.{◌≡◌, length};
 ghost use Rattle.settings.specs.Convert.{form_meant, line_for, convert_end, convert_kept};
 ghost use Rattle.settings.specs.Refused.{end_told, refusal_number};
 
-use crate::load::load_settings;
+use crate::load::monitor_with;
+use crate::read::read_settings;
 use crate::refusal::{Refused, SettingsRefusal};
 use crate::write::write_settings;
 
@@ -50,15 +51,19 @@ pub fn convert_settings(text: &[u8], form: u32, out: &mut [u8]) -> Result<Conver
     ensures answer { end_told result ≡ convert_end form (length out.old) text.now }
     ensures buffer { out.new ≡ convert_kept form out.old text.now }
 {
-    let loaded = load_settings(text)?;
-    match write_settings(&loaded.monitor, form_meant(form, loaded.form), out) {
+    let found = read_settings(text)?;
+    match write_settings(
+        &monitor_with(&found),
+        form_meant(form, found.values.form),
+        out,
+    ) {
         Ok(length) => Ok(Converted {
-            line: loaded.line,
+            line: found.line,
             length,
         }),
         Err(refusal) => Err(Refused {
             refusal,
-            line: line_for(loaded.line, refusal),
+            line: line_for(found.line, refusal),
         }),
     }
 }

@@ -11,4 +11,4 @@ returns-in_err-found c =
     rw (p.1, p.2) (load_reads _ c.in_err-found.ensures)
 
 pub returns : goal.returns
-returns c = rw c.fresh-m.ensures (load_reads _ c.in_ok-found.ensures)
+returns c = rw c.monitor_with.ensures (load_reads _ c.in_ok-found.ensures)
