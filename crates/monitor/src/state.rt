@@ -16,7 +16,7 @@ use topics::matching::Matching;
 
 // `matching` is the matcher that the rules are chosen by. The Rust has no such field: its own is `Port` (request C-15). A constructor sets it, and no call changes it.
 // `rule_count` stands beside the rules: number 10 refuses counts that a type would exclude (`well_formed`).
-#[derive(Clone, Debug, PartialEq, Eq, Drop)]
+#[derive(Clone, Copy, Debug, PartialEq, Eq)]
 pub struct MqttMonitor {
     pub rules: [TopicRule; RULES],
     pub rule_count: u16,

@@ -16,7 +16,7 @@ use topics::matching::Matching;
 
 // How a trace ended, the place of its first message, the time of its last, and the state after all of them. Where the opening or a rule was refused there is no message, and the place is the
 // text's end. A `Result` would be no plainer: state, time and place stand whether the trace is whole or not.
-#[derive(Clone, Debug, PartialEq, Eq, Drop)]
+#[derive(Clone, Copy, Debug, PartialEq, Eq)]
 pub struct Seen {
     pub number: u32,
     pub line: u64,
