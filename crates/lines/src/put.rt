@@ -27,6 +27,9 @@ pub fn put_bytes(out: &mut [u8], at: usize, s: &[u8]) -> usize
 {
     let mut p = at;
     for b in s {
+        if out.len() <= p {
+            break; // the rest is cut off, however long it is
+        }
         p = put_byte(out, p, *b);
     }
     p

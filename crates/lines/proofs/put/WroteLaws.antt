@@ -1,4 +1,4 @@
--- How writes into a lent buffer follow one another: none (`wrote_none`), one after another (`wrote_then`), a byte more (`wrote_more`). No law has a condition on the room, since what does not fit
+-- How writes into a lent buffer follow one another: none (`wrote_none`), one after another (`wrote_then`), a byte more (`wrote_more`), the rest cut off (`wrote_cut`). No law has a condition on the room, since what does not fit
 -- is cut off; who knows that all fits has the place by `wrote_room`. Assumes nothing.
 use Prim.Native.Nat.{ℕ, suc, ◌+◌, ◌≤◌, ◌<◌}
 use mathlib.Core.Path.{◌≡◌, refl, sym, ap, ◌∙◌}
@@ -6,8 +6,9 @@ use mathlib.Core.List.{List, [], ◌∷◌, ◌++◌}
 use native.Mathlib.Omega.{arith}
 use native.Mathlib.Nat.{add-zero, add-suc, suc-add}
 use native.Mathlib.Numerals.{add-one}
-use lib.ListN.{length, set, take, get_or, length-append}
+use lib.ListN.{length, set, take, drop, get_or, length-append}
 use lib.Seq.{sets, length-sets, set_out, take-suc}
+use Rattle.std.proofs.lemmas.List.{take-append-drop}
 use Rattle.laws.proofs.Cases.{by_le}
 use Rattle.lines.specs.Wrote.{Wrote, place_after}
 
@@ -48,3 +49,10 @@ wrote_none d at = record { next = omega arith; bytes = refl }
 module _ {d e : List ℕ} {at p : ℕ} (s : List ℕ) (i : ℕ) (w : Wrote d e at (take i s) p) where
   pub wrote_more : i < length s → {f : List ℕ} {r : ℕ} → Wrote e f p (get_or s i 0 ∷ []) r → Wrote d f at (take (i + 1) s) r
   wrote_more h v = rw (add-one i, take-suc s i 0) (wrote_then w v)
+
+  -- the buffer is full
+  pub wrote_cut : length e ≤ p → Wrote d e at s p
+  wrote_cut h =
+      let none : Wrote e e p (drop i s) p = record { next = omega (arith, h); bytes = sym (sets_out e p (drop i s) h) } in
+      let all : Wrote d e at (take i s ++ drop i s) p = wrote_then w none in
+      rw (take-append-drop i s) at all

@@ -1,7 +1,7 @@
 -- Laws of `pattern_refusal`: what the number is test by test, in document 01's order, and what upper crates may take from an accepted pattern.
 -- Assumes nothing.
 use Rattle.std.specs.Prelude.{Result}
-use Rattle.std.proofs.Common.{rules, ◌≡◌, ℕ, ◌≤◌, Bool, true, false, cond, not, ◌||◌, ltb, List, [], ◌∷◌, length, sym, refl, arith, ltb-false, le-ltb}
+use Rattle.std.proofs.Common.{rules, ◌≡◌, ℕ, ◌<◌, ◌≤◌, Bool, true, false, cond, not, ◌||◌, ltb, List, [], ◌∷◌, length, sym, refl, arith, ltb-false, le-ltb, lt-ltb}
 use borrow.Author.Tests.{not-false}
 use Rattle.laws.specs.Lists.{none}
 use Rattle.laws.specs.Refusals.{refusal}
@@ -17,6 +17,12 @@ use Rattle.topics.specs.declared.patterns.PatternRefusal.{PatternRefusal}
 use Rattle.topics.specs.declared.patterns.PatternRefusal.TheVariants.{BadPattern, NotUtf8}
 use Rattle.topics.proofs.utf8.Decoded.{sendable}
 
+-- an empty pattern
+pub refused_empty : (p : List ℕ) → length p ≡ 0 → pattern_refusal p ≡ 9
+unfolding pattern_refusal
+refused_empty [] e = refl
+refused_empty (c ∷ p) e = absurd (omega arith)
+
 -- a list with an element is not empty
 pub some_none : (p : List ℕ) → 1 ≤ length p → none p ≡ false
 some_none [] l = absurd (omega arith)
@@ -28,10 +34,32 @@ module _ (p : List ℕ) (some : 1 ≤ length p) where
   unfolding valid_wildcards
   valid_placed = rw (some_none p some)
 
-  -- where nothing before it refuses, the wildcard test decides
-  pub refused_valid : length p ≤ 64 → has 0 p ≡ false → is_utf8 p ≡ true → count_of 43 p ≤ 3 → pattern_refusal p ≡ cond (not (valid_wildcards p)) 9 0
+  -- more than 64 bytes
+  pub refused_long : 64 < length p → pattern_refusal p ≡ 9
   unfolding pattern_refusal
-  refused_valid short clear u k = rw (some_none p some, le-ltb _ _ short, clear, u, le-ltb _ _ k, valid_placed)
+  refused_long l = rw (some_none p some, lt-ltb _ _ l)
+
+  module _ (short : length p ≤ 64) where
+    -- a zero byte
+    pub refused_zero : has 0 p ≡ true → pattern_refusal p ≡ 9
+    unfolding pattern_refusal
+    refused_zero z = rw (some_none p some, le-ltb _ _ short, z)
+
+    module _ (clear : has 0 p ≡ false) where
+      -- no UTF-8
+      pub refused_broken : is_utf8 p ≡ false → pattern_refusal p ≡ 36
+      unfolding pattern_refusal
+      refused_broken u = rw (some_none p some, le-ltb _ _ short, clear, u)
+
+      -- more than three `+`
+      pub refused_plus : is_utf8 p ≡ true → 3 < count_of 43 p → pattern_refusal p ≡ 9
+      unfolding pattern_refusal
+      refused_plus u k = rw (some_none p some, le-ltb _ _ short, clear, u, lt-ltb _ _ k)
+
+      -- else the wildcard test decides
+      pub refused_valid : is_utf8 p ≡ true → count_of 43 p ≤ 3 → pattern_refusal p ≡ cond (not (valid_wildcards p)) 9 0
+      unfolding pattern_refusal
+      refused_valid u k = rw (some_none p some, le-ltb _ _ short, clear, u, le-ltb _ _ k, valid_placed)
 
 -- what an accepted pattern is
 pub record Accepted (p : List ℕ) : Type 0 where
