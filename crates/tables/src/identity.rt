@@ -1,5 +1,6 @@
 // A topic's identity, made once a message, and the two tests of a held one against it (document 01, "Hashes"; 000 `matches_topic`, `make_topic_prefix`).
-ghost use Rattle.std.specs.Prelude.{◌≡◌};
+ghost use Rattle.std.specs.Prelude.{◌&&◌, ◌≡◌, eqb, take};
+ghost use Rattle.slices.specs.Bytes.{same};
 
 use slices::bytes::padded;
 use topics::hashes::{djb2_hash, fnv1a_hash, suffix_hash};
@@ -20,7 +21,7 @@ pub struct Id {
 }
 
 impl Id {
-    ghost use Rattle.tables.specs.Identity.{id_of, is_of, is_removed};
+    ghost use Rattle.tables.specs.Identity.{id_of, compared, is_of, is_removed};
 
     // The identity in a free place.
     pub const EMPTY: Id = Id {
@@ -47,29 +48,60 @@ impl Id {
         }
     }
 
+    // Whether a record is live and has this topic's length, then its hashes: what a message and a removal ask first. The record's come as numbers.
+    pub fn numbers_agree(&self, live: bool, len: u16, hash: u32, hash2: u32) -> bool
+        ensures { result ≡ (live && (eqb hash self.now.hash && eqb hash2 self.now.hash2 && eqb len self.now.len)) }
+    {
+        live && len == self.len && hash == self.hash && hash2 == self.hash2
+    }
+
+    // The same with the suffix hash, for a message.
+    pub fn all_numbers_agree(
+        &self,
+        live: bool,
+        len: u16,
+        hash: u32,
+        hash2: u32,
+        suffix_hash: u32,
+    ) -> bool
+        ensures { result ≡ (live && (eqb hash self.now.hash && eqb hash2 self.now.hash2 && eqb len self.now.len && eqb suffix_hash self.now.suffix_hash)) }
+    {
+        self.numbers_agree(live, len, hash, hash2) && suffix_hash == self.suffix_hash
+    }
+
+    // What is left to ask for a message: the first bytes, as many as the record keeps and no more than this topic has.
+    #[tactic(auto, using(crate::proofs::identity::PrefixLaws::take_min_32), unfolding(slices::specs::Bytes::same))]
+    pub fn first_bytes_agree(&self, held: &Id) -> bool
+        ensures { result ≡ same (take (compared held.now self.now) held.now.prefix) (take (compared held.now self.now) self.now.prefix) }
+    {
+        let n = usize::from(self.len)
+            .min(usize::from(held.prefix_len))
+            .min(PREFIX);
+        held.prefix[..n] == self.prefix[..n]
+    }
+
+    // What is left to ask for a removal: all 32 bytes.
+    #[tactic(auto, unfolding(slices::specs::Bytes::same))]
+    pub fn prefixes_agree(&self, held: &Id) -> bool
+        ensures { result ≡ same held.now.prefix self.now.prefix }
+    {
+        held.prefix == self.prefix
+    }
+
     // Whether a held identity is that of a message's topic: the numbers, then as many of the first bytes as it keeps, and no more than the topic has.
-    #[tactic(auto, using(crate::proofs::identity::PrefixLaws::take_min_32), unfolding(crate::specs::Identity::is_of, slices::specs::Bytes::same))]
+    #[tactic(auto, unfolding(crate::specs::Identity::is_of))]
     pub fn is_of(&self, topic: &Id) -> bool
         ensures { result ≡ is_of topic.now self.now }
     {
-        let n = usize::from(topic.len)
-            .min(usize::from(self.prefix_len))
-            .min(PREFIX);
-        self.len == topic.len
-            && self.hash == topic.hash
-            && self.hash2 == topic.hash2
-            && self.suffix_hash == topic.suffix_hash
-            && self.prefix[..n] == topic.prefix[..n]
+        topic.all_numbers_agree(true, self.len, self.hash, self.hash2, self.suffix_hash)
+            && topic.first_bytes_agree(self)
     }
 
     // The test of the two remove calls: no suffix hash, all 32 bytes.
-    #[tactic(auto, unfolding(crate::specs::Identity::is_removed, slices::specs::Bytes::same))]
+    #[tactic(auto, unfolding(crate::specs::Identity::is_removed))]
     pub fn is_removed_by(&self, topic: &Id) -> bool
         ensures { result ≡ is_removed topic.now self.now }
     {
-        self.len == topic.len
-            && self.hash == topic.hash
-            && self.hash2 == topic.hash2
-            && self.prefix == topic.prefix
+        topic.numbers_agree(true, self.len, self.hash, self.hash2) && topic.prefixes_agree(self)
     }
 }

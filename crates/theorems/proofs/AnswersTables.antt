@@ -17,6 +17,14 @@ use Rattle.tables.specs.contracts.covers.cover_report as covers-cover_report
 use Rattle.tables.proofs.covers.cover_report.Reads as covers-cover_report-reads
 use Rattle.tables.specs.contracts.identity.Id.of as identity-Id-of
 use Rattle.tables.proofs.identity.Id.of.Reads as identity-Id-of-reads
+use Rattle.tables.specs.contracts.identity.Id.numbers_agree as identity-Id-numbers_agree
+use Rattle.tables.proofs.identity.Id.numbers_agree.Reads as identity-Id-numbers_agree-reads
+use Rattle.tables.specs.contracts.identity.Id.all_numbers_agree as identity-Id-all_numbers_agree
+use Rattle.tables.proofs.identity.Id.all_numbers_agree.Reads as identity-Id-all_numbers_agree-reads
+use Rattle.tables.specs.contracts.identity.Id.first_bytes_agree as identity-Id-first_bytes_agree
+use Rattle.tables.proofs.identity.Id.first_bytes_agree.Reads as identity-Id-first_bytes_agree-reads
+use Rattle.tables.specs.contracts.identity.Id.prefixes_agree as identity-Id-prefixes_agree
+use Rattle.tables.proofs.identity.Id.prefixes_agree.Reads as identity-Id-prefixes_agree-reads
 use Rattle.tables.specs.contracts.identity.Id.is_of as identity-Id-is_of
 use Rattle.tables.proofs.identity.Id.is_of.Reads as identity-Id-is_of-reads
 use Rattle.tables.specs.contracts.identity.Id.is_removed_by as identity-Id-is_removed_by
@@ -130,6 +138,30 @@ one-identity-Id-of κs a x y e f p q = p ∙ sym q
 
 pub any-identity-Id-of : Any identity-Id-of.ended identity-Id-of-reads.Asked
 any-identity-Id-of κs a = tt
+
+pub one-identity-Id-numbers_agree : One identity-Id-numbers_agree.ended identity-Id-numbers_agree-reads.Post
+one-identity-Id-numbers_agree κs a x y e f p q = p ∙ sym q
+
+pub any-identity-Id-numbers_agree : Any identity-Id-numbers_agree.ended identity-Id-numbers_agree-reads.Asked
+any-identity-Id-numbers_agree κs a = tt
+
+pub one-identity-Id-all_numbers_agree : One identity-Id-all_numbers_agree.ended identity-Id-all_numbers_agree-reads.Post
+one-identity-Id-all_numbers_agree κs a x y e f p q = p ∙ sym q
+
+pub any-identity-Id-all_numbers_agree : Any identity-Id-all_numbers_agree.ended identity-Id-all_numbers_agree-reads.Asked
+any-identity-Id-all_numbers_agree κs a = tt
+
+pub one-identity-Id-first_bytes_agree : One identity-Id-first_bytes_agree.ended identity-Id-first_bytes_agree-reads.Post
+one-identity-Id-first_bytes_agree κs a x y e f p q = p ∙ sym q
+
+pub any-identity-Id-first_bytes_agree : Any identity-Id-first_bytes_agree.ended identity-Id-first_bytes_agree-reads.Asked
+any-identity-Id-first_bytes_agree κs a = tt
+
+pub one-identity-Id-prefixes_agree : One identity-Id-prefixes_agree.ended identity-Id-prefixes_agree-reads.Post
+one-identity-Id-prefixes_agree κs a x y e f p q = p ∙ sym q
+
+pub any-identity-Id-prefixes_agree : Any identity-Id-prefixes_agree.ended identity-Id-prefixes_agree-reads.Asked
+any-identity-Id-prefixes_agree κs a = tt
 
 pub one-identity-Id-is_of : One identity-Id-is_of.ended identity-Id-is_of-reads.Post
 one-identity-Id-is_of κs a x y e f p q = p ∙ sym q

@@ -1,5 +1,5 @@
--- The test of a held identity in two steps, first the numbers and whether the record is live, then the first bytes: together they are the whole test. `Id::is_of` asks all at once
--- (until issue 39 code asked them in two steps, docs/DECISIONS.md, 30); docs/CHANGING.md and docs/landings/C-14.md speak of these laws. Assumes nothing.
+-- The test of a held identity in two steps, first the numbers and whether the record is live, then the first bytes: together they are the whole test. `Id::is_of` and
+-- `Id::is_removed_by` are made of these two steps (docs/DECISIONS.md, 30); docs/landings/C-14.md speaks of these laws. Assumes nothing.
 use mathlib.Core.Bool.{Bool, true, false, ◌&&◌}
 use mathlib.Core.Path.{◌≡◌}
 use lib.Dec.{eqb}
