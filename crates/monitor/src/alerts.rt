@@ -172,8 +172,8 @@ impl Raised {
     }
 }
 
-// All alerts of a message, in the order of one inspection.
-pub(crate) fn raise_all(
+/// All alerts of a message, in the order of one inspection.
+pub fn raise_all(
     found: &Findings,
     hash: &[u8; 32],
     timestamp_us: u64,

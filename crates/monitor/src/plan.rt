@@ -42,12 +42,12 @@ impl Plan {
     }
 }
 
-// What each table decided on one message.
+/// What each table decided on one message: what `seen_for`, `spent_for` and `fed_for` hand out, and any other three as well.
 #[derive(Clone, Copy, Debug, PartialEq, Eq)]
-struct Decided {
-    seen: ConnectDecision,
-    spent: RateDecision,
-    fed: TrackerDecision,
+pub struct Decided {
+    pub seen: ConnectDecision,
+    pub spent: RateDecision,
+    pub fed: TrackerDecision,
 }
 
 // No window is asked.
@@ -106,9 +106,9 @@ fn hash_for(denial: u32, anomaly: bool, payload: &[u8]) -> [u8; 32]
     }
 }
 
-// The topic's identity, where the limiter or the tracker is asked.
+/// The topic's identity, where the limiter or the tracker is asked.
 #[tactic(auto, unfolding(crate::specs::Plan::id_for))]
-fn id_for(gate: &Gate, topic: &[u8]) -> Id
+pub fn id_for(gate: &Gate, topic: &[u8]) -> Id
     ensures { result ≡ id_for gate.now topic.now }
 {
     if gate.rate > 0 || gate.feeds {
@@ -118,8 +118,8 @@ fn id_for(gate: &Gate, topic: &[u8]) -> Id
     }
 }
 
-// The plan from what was decided, with the message's alerts.
-fn plan_from(
+/// The plan from what was decided, with the message's alerts: for any gate, not only for one that `gate_for` hands out.
+pub fn plan_from(
     gate: &Gate,
     decided: Decided,
     msg: &MqttMessage,
@@ -165,9 +165,9 @@ impl MqttMonitor {
     ghost use Rattle.monitor.specs.Plan.{seen_of, spent_of, fed_of, plan_of};
     ghost use Rattle.monitor.specs.State.{matcher_of};
 
-    // What the CONNECT windows decide.
+    /// What the CONNECT windows decide.
     #[tactic(auto, unfolding(crate::specs::Plan::seen_of))]
-    fn seen_for(&self, msg: &MqttMessage, topic: &[u8]) -> ConnectDecision
+    pub fn seen_for(&self, msg: &MqttMessage, topic: &[u8]) -> ConnectDecision
         ensures { result ≡ seen_of self.now.connect_windows self.now.connect_storm_threshold self.now.connect_storm_window_us msg.now topic.now }
     {
         if msg.packet_type != MqttPacketType::Connect {
@@ -182,9 +182,9 @@ impl MqttMonitor {
         )
     }
 
-    // What the limiter decides.
+    /// What the limiter decides, at a gate's rate.
     #[tactic(auto, unfolding(crate::specs::Plan::spent_of))]
-    pub(crate) fn spent_for(&self, rate: u16, id: &Id, time: u64) -> RateDecision
+    pub fn spent_for(&self, rate: u16, id: &Id, time: u64) -> RateDecision
         ensures { result ≡ spent_of self.now.rate_buckets rate id.now time }
     {
         if rate == 0 {
@@ -193,9 +193,9 @@ impl MqttMonitor {
         rate_limit_check(&self.rate_buckets, id, rate, time)
     }
 
-    // What the payload trackers decide.
+    /// What the payload trackers decide, where a gate feeds them.
     #[tactic(auto, unfolding(crate::specs::Plan::fed_of))]
-    fn fed_for(&self, feeds: bool, id: &Id, msg: &MqttMessage) -> TrackerDecision
+    pub fn fed_for(&self, feeds: bool, id: &Id, msg: &MqttMessage) -> TrackerDecision
         ensures { result ≡ fed_of self.now.ewma_trackers feeds id.now msg.now.payload_len msg.now.timestamp_us }
     {
         if !feeds {

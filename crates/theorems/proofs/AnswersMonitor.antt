@@ -7,6 +7,8 @@ use Rattle.monitor.specs.contracts.alerts.severity_of as alerts-severity_of
 use Rattle.monitor.proofs.alerts.severity_of.Reads as alerts-severity_of-reads
 use Rattle.monitor.specs.contracts.alerts.count_on as alerts-count_on
 use Rattle.monitor.proofs.alerts.count_on.Reads as alerts-count_on-reads
+use Rattle.monitor.specs.contracts.alerts.raise_all as alerts-raise_all
+use Rattle.monitor.proofs.alerts.raise_all.Reads as alerts-raise_all-reads
 use Rattle.monitor.specs.contracts.state.MqttMonitor.fresh as state-MqttMonitor-fresh
 use Rattle.monitor.proofs.state.MqttMonitor.fresh.Reads as state-MqttMonitor-fresh-reads
 use Rattle.monitor.specs.contracts.state.MqttMonitor.new as state-MqttMonitor-new
@@ -47,6 +49,16 @@ use Rattle.monitor.specs.contracts.message.type_at as message-type_at
 use Rattle.monitor.proofs.message.type_at.Reads as message-type_at-reads
 use Rattle.monitor.specs.contracts.plan.Plan.result as plan-Plan-result
 use Rattle.monitor.proofs.plan.Plan.result.Reads as plan-Plan-result-reads
+use Rattle.monitor.specs.contracts.state.MqttMonitor.seen_for as state-MqttMonitor-seen_for
+use Rattle.monitor.proofs.state.MqttMonitor.seen_for.Reads as state-MqttMonitor-seen_for-reads
+use Rattle.monitor.specs.contracts.plan.id_for as plan-id_for
+use Rattle.monitor.proofs.plan.id_for.Reads as plan-id_for-reads
+use Rattle.monitor.specs.contracts.state.MqttMonitor.spent_for as state-MqttMonitor-spent_for
+use Rattle.monitor.proofs.state.MqttMonitor.spent_for.Reads as state-MqttMonitor-spent_for-reads
+use Rattle.monitor.specs.contracts.state.MqttMonitor.fed_for as state-MqttMonitor-fed_for
+use Rattle.monitor.proofs.state.MqttMonitor.fed_for.Reads as state-MqttMonitor-fed_for-reads
+use Rattle.monitor.specs.contracts.plan.plan_from as plan-plan_from
+use Rattle.monitor.proofs.plan.plan_from.Reads as plan-plan_from-reads
 use Rattle.monitor.specs.contracts.plan.plan_light as plan-plan_light
 use Rattle.monitor.proofs.plan.plan_light.Reads as plan-plan_light-reads
 use Rattle.monitor.specs.contracts.state.MqttMonitor.plan_for as state-MqttMonitor-plan_for
@@ -90,6 +102,12 @@ one-alerts-count_on κs a x y e f p q = p ∙ sym q
 
 pub any-alerts-count_on : Any alerts-count_on.ended alerts-count_on-reads.Asked
 any-alerts-count_on κs a = tt
+
+pub one-alerts-raise_all : One alerts-raise_all.ended alerts-raise_all-reads.Post
+one-alerts-raise_all κs a x y e f p q = p ∙ sym q
+
+pub any-alerts-raise_all : Any alerts-raise_all.ended alerts-raise_all-reads.Asked
+any-alerts-raise_all κs a = tt
 
 pub one-state-MqttMonitor-fresh : One state-MqttMonitor-fresh.ended state-MqttMonitor-fresh-reads.Post
 one-state-MqttMonitor-fresh κs a x y e f p q = p ∙ sym q
@@ -210,6 +228,36 @@ one-plan-Plan-result κs a x y e f p q = p ∙ sym q
 
 pub any-plan-Plan-result : Any plan-Plan-result.ended plan-Plan-result-reads.Asked
 any-plan-Plan-result κs a = tt
+
+pub one-state-MqttMonitor-seen_for : One state-MqttMonitor-seen_for.ended state-MqttMonitor-seen_for-reads.Post
+one-state-MqttMonitor-seen_for κs a x y e f p q = p ∙ sym q
+
+pub any-state-MqttMonitor-seen_for : Any state-MqttMonitor-seen_for.ended state-MqttMonitor-seen_for-reads.Asked
+any-state-MqttMonitor-seen_for κs a = tt
+
+pub one-plan-id_for : One plan-id_for.ended plan-id_for-reads.Post
+one-plan-id_for κs a x y e f p q = p ∙ sym q
+
+pub any-plan-id_for : Any plan-id_for.ended plan-id_for-reads.Asked
+any-plan-id_for κs a = tt
+
+pub one-state-MqttMonitor-spent_for : One state-MqttMonitor-spent_for.ended state-MqttMonitor-spent_for-reads.Post
+one-state-MqttMonitor-spent_for κs a x y e f p q = p ∙ sym q
+
+pub any-state-MqttMonitor-spent_for : Any state-MqttMonitor-spent_for.ended state-MqttMonitor-spent_for-reads.Asked
+any-state-MqttMonitor-spent_for κs a = tt
+
+pub one-state-MqttMonitor-fed_for : One state-MqttMonitor-fed_for.ended state-MqttMonitor-fed_for-reads.Post
+one-state-MqttMonitor-fed_for κs a x y e f p q = p ∙ sym q
+
+pub any-state-MqttMonitor-fed_for : Any state-MqttMonitor-fed_for.ended state-MqttMonitor-fed_for-reads.Asked
+any-state-MqttMonitor-fed_for κs a = tt
+
+pub one-plan-plan_from : One plan-plan_from.ended plan-plan_from-reads.Post
+one-plan-plan_from κs a x y e f p q = p ∙ sym q
+
+pub any-plan-plan_from : Any plan-plan_from.ended plan-plan_from-reads.Asked
+any-plan-plan_from κs a = tt
 
 pub one-plan-plan_light : One plan-plan_light.ended plan-plan_light-reads.Post
 one-plan-plan_light κs a x y e f p q = p ∙ sym q
