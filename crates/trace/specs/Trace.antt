@@ -82,7 +82,7 @@ pub record LoadedRules : Type 0 where
   pub rule_count : ℕ
   pub rules : List TopicRule
 
--- the monitor's default and rules: the rest is as in a fresh one, as `loaded` says of all of it
+-- the monitor's default and rules, which say all of it: the rest is as in a fresh one (proofs/run/LoadLaws.antt, `loaded-monitor`)
 abbrev pub rules_of : Loaded → LoadedRules
 rules_of l =
     record {

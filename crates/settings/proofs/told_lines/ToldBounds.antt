@@ -56,7 +56,7 @@ module _ (form : ℕ) (default : TopicAction) (matching : Matching) (threshold w
   unfolding head_told
   head_length = simp length-append
 
-  pub head_short : form < 2 ^ 64 → rules ≤ 32 → length (connect_told threshold window) ≤ 150 → length (head_told form default matching threshold window rules) ≤ 390
+  pub head_short : form < 2 ^ 64 → rules < 65536 → length (connect_told threshold window) ≤ 150 → length (head_told form default matching threshold window rules) ≤ 390
   unfolding every first_word rest_words
   head_short h g s =
       let a = decimal_20 form (omega (arith, h)) in

@@ -1,6 +1,7 @@
 -- How rules are loaded one after the other: what is left of them to load (`Loading`) begins after the opening (`load_start`), goes on with a rule that was
 -- added (`load_turn`), and stops at a rule that is refused (`load_stop`). The monitor is at each time sound, so number 10 does not come up and `add_rule` does
--- what its plan says (`rule_stop`, `rule_refused`, `rule_taken`). The choice of the matcher changes nothing of it (`loaded_alike`). Assumes nothing.
+-- what its plan says (`rule_stop`, `rule_refused`, `rule_taken`). A loaded monitor is a fresh one that has the rules of the table, so the table says all
+-- (`loaded-monitor`). The choice of the matcher changes nothing of it (`loaded_alike`). Assumes nothing.
 use Prim.Native.Nat.{ℕ, zero, suc, ◌+◌, ◌-◌, ◌*◌, ◌≤◌, ◌<◌}
 use mathlib.Core.Path.{◌≡◌, refl, sym, ap, ◌∙◌}
 use mathlib.Core.Bool.{true}
@@ -25,7 +26,7 @@ use Rattle.monitor.specs.Sound.{Sound}
 use Rattle.monitor.specs.State.{well_formed}
 use Rattle.monitor.specs.declared.state.MqttMonitor.{MqttMonitor}
 use Rattle.monitor.proofs.rule_calls.AddLaws.{add_number, add_takes, add_leaves}
-use Rattle.monitor.proofs.PlainLaws.{add_matching}
+use Rattle.monitor.proofs.PlainLaws.{holding, Plain, fresh_plain, add_plain, add_matching}
 use Rattle.monitor.proofs.SoundCalls.{sound_fresh, sound_add}
 use Rattle.rules_text.specs.RuleGroup.{rule_at, pattern_in}
 use Rattle.trace.specs.Groups.{opening_of}
@@ -78,6 +79,11 @@ pub loaded_choice : (matching : Matching) (s : List ℕ) → (loaded matching s)
 unfolding fresh
 loaded_choice matching s =
     loaded_holds (λ m. m.matching ≡ matching) matching (λ default. refl) (λ m p action policy rate h. add_matching m p action policy rate ∙ h) s
+
+-- the monitor that is loaded is a fresh one with the rules
+pub loaded-monitor : (matching : Matching) (s : List ℕ)
+    → let l = loaded matching s in holding matching l.monitor.default_action l.monitor.rules l.monitor.rule_count ≡ l.monitor
+loaded-monitor matching s = rw (loaded_choice matching s) at (loaded_holds Plain matching (fresh_plain matching) add_plain s)
 
 -- the same monitor with another choice, and what was loaded into it
 abbrev choosing : Matching → MqttMonitor → MqttMonitor

@@ -10,5 +10,5 @@ returns c = let head = c.args.head.now in record {
   text = head_wrote _ head.default_action head.matching _ _ _ (c.from-action.ensures ∙ c.action_number.ensures) (c.from-matcher.ensures ∙ c.matching_number.ensures)
       (rw c.from.ensures at c.put_number_line-after_form.ensures) c.put_word_line-after_default.ensures c.put_word_line-after_matching.ensures
       c.put_connect-after_connect.ensures.text (rw c.from-2.ensures at c.put_number_line.ensures);
-  short = head_short _ head.default_action head.matching _ _ _ (omega (arith, c.from.ensures)) c.requires c.put_connect-after_connect.ensures.short;
+  short = head_short _ head.default_action head.matching _ _ _ (omega (arith, c.from.ensures)) (omega (arith, c.requires)) c.put_connect-after_connect.ensures.short;
 }
