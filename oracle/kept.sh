@@ -31,12 +31,8 @@ fn main() {
     let mut other = buffer();
     let n = io::read_full(STDIN_FILENO, &mut one);
     let k = io::read_full(STDIN_FILENO, &mut other);
-    let Ok(a) = load_settings(upto(&one, n)) else {
-        return;
-    };
-    let Ok(b) = load_settings(upto(&other, k)) else {
-        return;
-    };
+    let a = load_settings(upto(&one, n));
+    let b = load_settings(upto(&other, k));
     let Ok(v) = write_settings(&a.monitor, 1, &mut one) else {
         return;
     };

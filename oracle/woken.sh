@@ -28,9 +28,7 @@ fn main() {
     let mut text = io::large_buffer();
     let n = io::read_full(STDIN_FILENO, &mut text);
     let from = 2 + text[0] as usize * 256 + text[1] as usize;
-    let Ok(loaded) = load_settings(&text[2..from]) else {
-        return;
-    };
+    let loaded = load_settings(&text[2..from]);
     let m = loaded.monitor;
     let mut out = io::large_buffer();
 END

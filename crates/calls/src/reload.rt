@@ -17,15 +17,16 @@ fn reload(m: &mut MqttMonitor, form: u32) {
         Err(refusal) => return say_number(b"refused", u64::from(refusal.number())),
     };
     let text = upto(&room, length);
-    match load_settings(text) {
-        Ok(loaded) => {
+    let loaded = load_settings(text);
+    match loaded.outcome {
+        Ok(_) => {
             say_number(b"done", loaded.line);
             say_number(b"length", length as u64);
             *m = loaded.monitor;
         }
-        Err(refused) => {
-            say_number(b"refused", u64::from(refused.refusal.number()));
-            say_number(b"line", refused.line);
+        Err(refusal) => {
+            say_number(b"refused", u64::from(refusal.number()));
+            say_number(b"line", loaded.line);
         }
     }
     say_lines(text);

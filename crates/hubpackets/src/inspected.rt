@@ -3,18 +3,17 @@ ghost use Rattle.std.specs.Prelude.{◌≡◌, length, take};
 ghost use Rattle.io.specs.Counts.{IsPrefixLen};
 ghost use Rattle.streams.specs.Turns.{DoneWithin};
 ghost use Rattle.queue.specs.Queue.{ended};
-ghost use Rattle.settings.specs.Refused.{load_told};
+ghost use Rattle.settings.specs.Refused.{loaded_told};
 ghost use Rattle.hubpackets.specs.Inspected.{loaded_from, end_to, records_to};
 
 use monitor::state::MqttMonitor;
 use queue::run::{Reached, RunEnd, run_packets};
 use settings::load::{Loaded, load_settings};
-use settings::refusal::Refused;
 
 // The settings text that was read, loaded.
-pub(crate) fn load_read(read: Result<usize, i32>, text: &[u8]) -> Result<Loaded, Refused>
+pub(crate) fn load_read(read: Result<usize, i32>, text: &[u8]) -> Loaded
     requires { DoneWithin read (length text.now) }
-    ensures { load_told result ≡ loaded_from read text.now }
+    ensures { loaded_told result ≡ loaded_from read text.now }
 {
     let Ok(n) = read else {
         return load_settings(b"");

@@ -169,10 +169,12 @@ fn inspect_under(rt: &HostRuntime, capture: &mut [u8], at: u64, ok: bool) {
         );
         return;
     }
-    match load_read(read, &text) {
-        Ok(mut settings) => inspect(rt, &mut settings.monitor, capture, at, ok),
-        Err(refused) => refuse(refused.refusal.number(), refused.line),
+    let mut settings = load_read(read, &text);
+    if let Err(refusal) = settings.outcome {
+        refuse(refusal.number(), settings.line);
+        return;
     }
+    inspect(rt, &mut settings.monitor, capture, at, ok);
 }
 
 // The capture's buffer is here, one for both ways: what is built into `main` takes its stack whichever way is gone.

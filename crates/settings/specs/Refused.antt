@@ -2,8 +2,7 @@
 -- value beside each other.
 -- Assumes nothing.
 use Rattle.std.specs.Prelude.{ℕ, cond, eqb, Result, Ok, Err}
-use Rattle.topics.specs.declared.matching.Matching.TheVariants.{Port}
-use Rattle.tables.specs.declared.rules.TopicAction.TheVariants.{Block}
+use Rattle.laws.specs.Refusals.{refusal}
 use Rattle.monitor.specs.Calls.{fresh}
 use Rattle.monitor.specs.State.{with_rules, with_settings}
 use Rattle.monitor.specs.declared.state.MqttMonitor.{MqttMonitor}
@@ -111,10 +110,14 @@ abbrev pub monitor_with : SettingsFound → MqttMonitor
 monitor_with f =
     with_settings (with_rules (fresh f.values.matching f.values.default_action) f.rules f.values.rules) f.values.threshold f.values.window
 
--- a load: what is refused leaves no monitor, and to the definition that is a fresh one that denies all
-abbrev pub load_told : Result Loaded Refused → LoadedSettings
-load_told (Ok l) = record { number = 0; line = l.line; form = l.form; monitor = l.monitor }
-load_told (Err e) = record { number = refusal_number e.refusal; line = e.line; form = 0; monitor = fresh Port Block }
+-- the form of a text that was loaded; a refused one has none
+abbrev pub form_told : Result ℕ SettingsRefusal → ℕ
+form_told (Ok form) = form
+form_told (Err e) = 0
+
+-- a load
+abbrev pub loaded_told : Loaded → LoadedSettings
+loaded_told l = record { number = refusal refusal_number l.outcome; line = l.line; form = form_told l.outcome; monitor = l.monitor }
 
 -- a writing, or a length
 abbrev pub write_told : Result ℕ SettingsRefusal → Written

@@ -6,7 +6,7 @@
 pub mod convert;
 pub mod dead;
 mod dead_lines;
-mod head;
+pub mod head;
 pub mod load;
 mod matcher;
 pub mod read;

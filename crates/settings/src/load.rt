@@ -1,18 +1,21 @@
-// A settings text, loaded: a fresh monitor that has its settings, or what refuses it.
+// A settings text, loaded: a fresh monitor that has its settings; or what refuses it, beside one that denies all.
 ghost use Rattle.std.specs.Prelude.{◌≡◌};
 ghost use Rattle.settings.specs.Loaded.{loaded_of};
-ghost use Rattle.settings.specs.Refused.{load_told, monitor_with};
+ghost use Rattle.settings.specs.Refused.{loaded_told, monitor_with};
 ghost use Rattle.settings.specs.SettingsText.{settings_of};
 
 use crate::read::{SettingsFound, read_settings};
-use crate::refusal::Refused;
+use crate::refusal::SettingsRefusal;
 use monitor::state::MqttMonitor;
+use tables::rules::TopicAction;
+use topics::matching::Matching;
 
-// What a text loaded to: the monitor, the form of its text and the last line.
-#[derive(Clone, Debug, PartialEq, Eq, Drop)]
+/// What a text loaded to: the form of its text or what refuses it, the last line or the refused one, and the monitor. Where `outcome` refuses the text at `line` nothing of it is kept: the monitor is
+/// then a fresh one that denies all, so that whoever forgets to look opens nothing.
+#[derive(Clone, Copy, Debug, PartialEq, Eq)]
 pub struct Loaded {
+    pub outcome: Result<u32, SettingsRefusal>,
     pub line: u64,
-    pub form: u32,
     pub monitor: MqttMonitor,
 }
 
@@ -29,13 +32,19 @@ pub(crate) fn monitor_with(found: &SettingsFound) -> MqttMonitor
 }
 
 // No monitor is taken: whoever has one keeps it until this one is there.
-pub fn load_settings(text: &[u8]) -> Result<Loaded, Refused>
-    ensures { load_told result ≡ loaded_of (settings_of text.now) }
+pub fn load_settings(text: &[u8]) -> Loaded
+    ensures { loaded_told result ≡ loaded_of (settings_of text.now) }
 {
-    let found = read_settings(text)?;
-    Ok(Loaded {
-        line: found.line,
-        form: found.values.form,
-        monitor: monitor_with(&found),
-    })
+    match read_settings(text) {
+        Ok(found) => Loaded {
+            outcome: Ok(found.values.form),
+            line: found.line,
+            monitor: monitor_with(&found),
+        },
+        Err(refused) => Loaded {
+            outcome: Err(refused.refusal),
+            line: refused.line,
+            monitor: MqttMonitor::fresh(Matching::Port, TopicAction::Block),
+        },
+    }
 }

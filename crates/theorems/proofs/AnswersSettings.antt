@@ -20,7 +20,7 @@ use Rattle.settings.specs.contracts.dead.tell_pair as dead-tell_pair
 use Rattle.settings.proofs.dead.tell_pair.Reads as dead-tell_pair-reads
 use Rattle.settings.specs.contracts.refusal.SettingsRefusal.number as refusal-SettingsRefusal-number
 use Rattle.settings.proofs.refusal.SettingsRefusal.number.Reads as refusal-SettingsRefusal-number-reads
-use Rattle.settings.proofs.refusal.OnceLaws.{read_once, load_once, write_once, end_once}
+use Rattle.settings.proofs.refusal.OnceLaws.{read_once, loaded_once, write_once, end_once}
 use Rattle.theorems.specs.One.{Any, One, OneLeft}
 
 pub one-read-read_settings : One read-read_settings.ended read-read_settings-reads.Post
@@ -30,7 +30,7 @@ pub any-read-read_settings : Any read-read_settings.ended read-read_settings-rea
 any-read-read_settings κs a = tt
 
 pub one-load-load_settings : One load-load_settings.ended load-load_settings-reads.Post
-one-load-load_settings κs a x y e f p q = load_once _ _ (p ∙ sym q)
+one-load-load_settings κs a x y e f p q = loaded_once _ _ (p ∙ sym q)
 
 pub any-load-load_settings : Any load-load_settings.ended load-load_settings-reads.Asked
 any-load-load_settings κs a = tt

@@ -1,5 +1,5 @@
--- How writes into a lent buffer follow one another: none (`wrote_none`), one after another (`wrote_then`), a byte more (`wrote_more`), the rest cut off (`wrote_cut`). No law has a condition on the room, since what does not fit
--- is cut off; who knows that all fits has the place by `wrote_room`. Assumes nothing.
+-- How writes into a lent buffer follow one another: none (`wrote_none`), one after another (`wrote_then`), a byte more (`wrote_more`), the rest cut off (`wrote_cut`).
+-- No other law has a condition on the room, since what does not fit is cut off; who knows that all fits has the place by `wrote_room`. Assumes nothing.
 use Prim.Native.Nat.{ℕ, suc, ◌+◌, ◌≤◌, ◌<◌}
 use mathlib.Core.Path.{◌≡◌, refl, sym, ap, ◌∙◌}
 use mathlib.Core.List.{List, [], ◌∷◌, ◌++◌}

@@ -2,9 +2,11 @@
 use Prim.Native.Nat.{ℕ}
 use mathlib.Core.Path.{◌≡◌, ap, sym, ◌∙◌}
 use Rattle.std.specs.Prelude.{Result, Ok, Err}
+use Rattle.laws.specs.Refusals.{refusal}
+use Rattle.monitor.specs.declared.state.MqttMonitor.{MqttMonitor}
 use Rattle.settings.specs.Kept.{SettingsRead}
 use Rattle.settings.specs.Loaded.{LoadedSettings, Written}
-use Rattle.settings.specs.Refused.{refusal_number, read_told, load_told, write_told, end_told}
+use Rattle.settings.specs.Refused.{refusal_number, read_told, form_told, loaded_told, write_told, end_told}
 use Rattle.settings.specs.declared.convert.Converted.{Converted}
 use Rattle.settings.specs.declared.convert.SettingsEnd.{SettingsEnd}
 use Rattle.settings.specs.declared.load.Loaded.{Loaded}
@@ -45,15 +47,20 @@ read_once (Err d) (Ok g) p = absurd (never_0 d.refusal (ap (λ (r : SettingsRead
 read_once (Err d) (Err e) p =
     let k : Refused → Result SettingsFound Refused = λ x. Err x in ap k (refused_same d e (ap (λ (r : SettingsRead). r.number) p) (ap (λ (r : SettingsRead). r.line) p))
 
-abbrev load_of : LoadedSettings → Loaded
-load_of r = record { line = r.line; form = r.form; monitor = r.monitor }
+outcome_once : (a b : Result ℕ SettingsRefusal) → refusal refusal_number a ≡ refusal refusal_number b → form_told a ≡ form_told b → a ≡ b
+outcome_once (Ok f) (Ok g) n p = let k : ℕ → Result ℕ SettingsRefusal = λ x. Ok x in ap k p
+outcome_once (Ok f) (Err e) n p = absurd (never_0 e (sym n))
+outcome_once (Err d) (Ok g) n p = absurd (never_0 d n)
+outcome_once (Err d) (Err e) n p = let k : SettingsRefusal → Result ℕ SettingsRefusal = λ x. Err x in ap k (refusal_same d e n)
 
-pub load_once : (a b : Result Loaded Refused) → load_told a ≡ load_told b → a ≡ b
-load_once (Ok f) (Ok g) p = let k : LoadedSettings → Result Loaded Refused = λ r. Ok (load_of r) in ap k p
-load_once (Ok f) (Err e) p = absurd (never_0 e.refusal (sym (ap (λ (r : LoadedSettings). r.number) p)))
-load_once (Err d) (Ok g) p = absurd (never_0 d.refusal (ap (λ (r : LoadedSettings). r.number) p))
-load_once (Err d) (Err e) p =
-    let k : Refused → Result Loaded Refused = λ x. Err x in ap k (refused_same d e (ap (λ (r : LoadedSettings). r.number) p) (ap (λ (r : LoadedSettings). r.line) p))
+loaded_is : {a b : Result ℕ SettingsRefusal} {l m : ℕ} {x y : MqttMonitor} → a ≡ b → l ≡ m → x ≡ y
+    → ◌≡◌ {A = Loaded} (record { outcome = a; line = l; monitor = x }) (record { outcome = b; line = m; monitor = y })
+loaded_is p q r = rw (p, q, r)
+
+pub loaded_once : (a b : Loaded) → loaded_told a ≡ loaded_told b → a ≡ b
+loaded_once a b p =
+    let outcome = outcome_once a.outcome b.outcome (ap (λ (r : LoadedSettings). r.number) p) (ap (λ (r : LoadedSettings). r.form) p) in
+    loaded_is outcome (ap (λ (r : LoadedSettings). r.line) p) (ap (λ (r : LoadedSettings). r.monitor) p)
 
 pub write_once : (a b : Result ℕ SettingsRefusal) → write_told a ≡ write_told b → a ≡ b
 write_once (Ok f) (Ok g) p = let k : Written → Result ℕ SettingsRefusal = λ r. Ok r.length in ap k p
