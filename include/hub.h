@@ -12,14 +12,14 @@
  * - the bytes that are read are initialised, and nothing changes them during the call; `out` need not be initialised;
  * - what a function writes to overlaps no other argument, and nothing else reads or writes it during the call;
  * - there is room on the stack: 48 KiB for hub_queue and for a call whose name begins with hub_standing or hub_trace,
- *   40 KiB for hub_settings, 2 KiB for hub_covers and hub_witness, 1 KiB for any other (see below; until issue 39 it was
- *   96 KiB for hub_standing, 56 KiB for hub_queue and 16 KiB for hub_settings).
+ *   16 KiB for hub_settings, 2 KiB for hub_covers and hub_witness, 1 KiB for any other (see below; until issue 39 it was
+ *   96 KiB for hub_standing and 56 KiB for hub_queue).
  *
  * Each call then returns, allocates nothing, keeps no pointer and has no state: equal arguments give equal answers, on
  * any thread. A bool is 0 or 1.
  *
  * Stack, in bytes below the caller, by measurement (rattle-kit-13f, x86-64; `bin/measure stack` measures again): those
- * of the standing reach 41,416, hub_queue 40,360, hub_settings 36,920, those of traces 21,816, hub_witness 1,208,
+ * of the standing reach 41,416, hub_queue 40,360, those of traces 21,816, hub_settings 10,440, hub_witness 1,208,
  * hub_covers 936, hub_packet_lines 712, hub_packet 408, every other call at most 256, less not being told apart. Whole,
  * cut and damaged texts and packets were tried; by the disassembly no function calls itself, no frame grows with its
  * input, and the frames of a call add up to at most 250 bytes more. */

@@ -19,8 +19,8 @@ pub struct Loaded {
     pub monitor: MqttMonitor,
 }
 
-// A fresh monitor with the settings that were read. It goes into no `Result` where it is only to be written (`convert_settings`): so no copy of it is kept on the stack.
-pub(crate) fn monitor_with(found: &SettingsFound) -> MqttMonitor
+// A fresh monitor with the settings that were read.
+fn monitor_with(found: &SettingsFound) -> MqttMonitor
     ensures { result ≡ monitor_with found.now }
 {
     let mut m = MqttMonitor::fresh(found.values.matching, found.values.default_action);

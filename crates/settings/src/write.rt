@@ -1,11 +1,13 @@
 // A monitor's settings, written into a lent buffer, and how long their text is. They are written as they stand in the monitor, in the form that is asked for.
-ghost use Rattle.std.specs.Prelude.{◌≡◌, length};
+ghost use Rattle.std.specs.Prelude.{◌≡◌, true, length};
 ghost use Rattle.laws.specs.Refusals.{refusal};
+ghost use Rattle.monitor.specs.State.{well_formed};
 ghost use Rattle.settings.specs.Loaded.{length_of, written_of, text_kept};
-ghost use Rattle.settings.specs.Refused.{refusal_number, head_in, write_told};
+ghost use Rattle.settings.specs.Refused.{refusal_number, head_in, monitor_with, write_told};
 ghost use Rattle.settings.specs.SettingsText.{form_refusal};
 
 use crate::head::{HeadValues, head_len, put_head};
+use crate::read::SettingsFound;
 use crate::refusal::SettingsRefusal;
 use crate::rules::{counted, put_rules, rules_len};
 use monitor::state::MqttMonitor;
@@ -62,5 +64,41 @@ pub fn write_settings(m: &MqttMonitor, form: u32, out: &mut [u8]) -> Result<usiz
     }
     let next = put_head(out, 0, &head_in(m, form));
     put_rules(out, next, counted(&m.rules, m.rule_count));
+    Ok(wanted)
+}
+
+// How many bytes the text of settings that were read has. Number 10 refuses none of them, so it is not asked.
+fn found_length(found: &SettingsFound, form: u32) -> Result<usize, SettingsRefusal>
+    requires { well_formed (monitor_with found.now) ≡ true }
+    ensures { write_told result ≡ length_of form (monitor_with found.now) }
+{
+    check_form(form, found.values.matching)?;
+    let head = head_len(&HeadValues {
+        form,
+        ..found.values
+    });
+    Ok(head + rules_len(counted(&found.rules, found.values.rules)))
+}
+
+// What `write_settings` does with the monitor of settings that were read, from the settings themselves: so where they are only written (`convert_settings`) no monitor of 8 KB lies on the stack.
+pub(crate) fn write_found(
+    found: &SettingsFound,
+    form: u32,
+    out: &mut [u8],
+) -> Result<usize, SettingsRefusal>
+    requires { well_formed (monitor_with found.now) ≡ true }
+    ensures answer { write_told result ≡ written_of form (monitor_with found.now) (length out.old) }
+    ensures buffer { out.new ≡ text_kept form (monitor_with found.now) out.old }
+{
+    let wanted = found_length(found, form)?;
+    if out.len() < wanted {
+        return Err(SettingsRefusal::NoRoom);
+    }
+    let head = HeadValues {
+        form,
+        ..found.values
+    };
+    let next = put_head(out, 0, &head);
+    put_rules(out, next, counted(&found.rules, found.values.rules));
     Ok(wanted)
 }

@@ -3,7 +3,7 @@ use mathlib.Core.Path.{refl}
 use Rattle.std.proofs.lemmas.Result.{err_from_is_err_and}
 use Rattle.settings.specs.Convert.{end_at}
 use Rattle.settings.proofs.convert.ConvertLaws.{convert_refused, convert_ends}
-use Rattle.settings.proofs.load.LoadedLaws.{load_reads}
+use Rattle.settings.proofs.load.LoadedLaws.{load_reads, load_formed}
 use Rattle.settings.proofs.refusal.KnownLaws.{never_0}
 use Rattle.settings.proofs.convert.convert_settings.Goals as goal
 
@@ -13,18 +13,19 @@ returns-in_err-found c =
     let h = convert_refused c.args.form c.args.out.now c.args.text.now (load_reads _ c.in_err-found.ensures) (never_0 c.in_err-found.field-0.0.refusal) in
     record { answer = rw (p.1, p.2) h.0; buffer = h.1 }
 
+pub write_found-requires : goal.write_found-requires
+write_found-requires c = load_formed _ c.in_ok-found.ensures
+
 pub returns-in-Ok : goal.returns-in-Ok
 unfolding end_at
 returns-in-Ok c =
     let read = load_reads _ c.in_ok-found.ensures in
-    let wrote = rw c.monitor_with.ensures at c.in-Ok.ensures in
-    let h = convert_ends c.args.form c.args.out.now c.args.text.now read refl c.form_meant.ensures (wrote.answer, wrote.buffer) in
+    let h = convert_ends c.args.form c.args.out.now c.args.text.now read refl c.form_meant.ensures (c.in-Ok.ensures.answer, c.in-Ok.ensures.buffer) in
     record { answer = h.0; buffer = h.1 }
 
 pub returns-in-Err : goal.returns-in-Err
 unfolding end_at
 returns-in-Err c =
     let read = load_reads _ c.in_ok-found.ensures in
-    let wrote = rw c.monitor_with.ensures at c.in-Err.ensures in
-    let h = convert_ends c.args.form c.args.out.now c.args.text.now read refl c.form_meant.ensures (wrote.answer, wrote.buffer) in
+    let h = convert_ends c.args.form c.args.out.now c.args.text.now read refl c.form_meant.ensures (c.in-Err.ensures.answer, c.in-Err.ensures.buffer) in
     record { answer = rw c.line_for.ensures h.0; buffer = h.1 }
