@@ -1,13 +1,14 @@
 // One loop owns the monitor and inspects message after message: each is planned and what was decided is stored in place. Rules and times
 // are made from numbers, so that the Rust can be given the same; topics are lent, since what the compiler knows of them it computes beforehand.
-ghost use Rattle.std.specs.Prelude.{cond, ◌≡◌, ◌+◌, ◌-◌, ◌≤◌, min, max};
+ghost use Rattle.std.specs.Prelude.{true, cond, ◌≡◌, ◌+◌, ◌-◌, ◌≤◌, min, max};
 ghost use Rattle.monitor.specs.Alerts.{counted};
+ghost use Rattle.monitor.specs.State.{well_formed};
 ghost use Rattle.loops.specs.Inspections.{pattern_at, next_from, loop_message, with_pattern, readied, loop_allowed};
 
 use monitor::alerts::count_on;
 use monitor::message::{MqttMessage, MqttPacketType, TOPIC_MAX};
 use monitor::state::MqttMonitor;
-use tables::rules::{MqttQoS, QosPolicy, RULES, TopicAction};
+use tables::rules::{MqttQoS, QosPolicy, RULES, TopicAction, plan_rule};
 use topics::matching::Matching;
 
 // A number of rules brought into 1 to 32, and one less: how many stand before the last.
@@ -52,12 +53,25 @@ fn loop_message(topic_len: u8, size: u16, k: u32) -> MqttMessage
     }
 }
 
-// One rule more, which limits; a refused one leaves the monitor as it was, and `hub_loop_rules` tells how many it has.
+// One rule more, which limits; a refused one leaves the monitor as it was, and `hub_loop_rules` tells how many it has. By `plan_rule`, not by `add_rule`, which would test the whole state and count
+// shadows at each rule.
 fn add_pattern(m: &mut MqttMonitor, pattern: &[u8])
+    requires { well_formed m.old ≡ true }
     ensures { m.new ≡ with_pattern m.old pattern.now }
 {
     let policy = QosPolicy::MinQoS(MqttQoS::AtLeastOnce);
-    let _ = m.add_rule(pattern, TopicAction::Allow, policy, 65535);
+    let planned = plan_rule(
+        &m.rules,
+        m.rule_count,
+        pattern,
+        TopicAction::Allow,
+        policy,
+        65535,
+    );
+    if let Ok(placement) = planned {
+        m.rules[placement.at] = placement.rule;
+        m.rule_count = placement.count;
+    }
 }
 
 // The monitor that blocks by default and has so many rules that take no topic below `site/+/lamp`, and one last that takes them all.

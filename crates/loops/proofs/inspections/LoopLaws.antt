@@ -1,7 +1,7 @@
--- One turn of each loop: a rule more (`ruled_turn`), and a message more, by what its calls handed back (`state_turn`, `allowed_turn`, `from_turn`); and what the loop
+-- One turn of each loop: a rule more (`ruled_turn`), which number 10 does not refuse (`ruled_formed`), and a message more, by what its calls handed back (`state_turn`, `allowed_turn`, `from_turn`); and what the loop
 -- answers where it does not run. Assumes nothing.
 use Prim.Native.Nat.{ℕ, zero, suc, ◌+◌, ◌≤◌}
-use mathlib.Core.Bool.{cond}
+use mathlib.Core.Bool.{true, cond}
 use mathlib.Core.List.{List}
 use mathlib.Core.Path.{◌≡◌}
 use native.Mathlib.Numerals.{add-one}
@@ -20,11 +20,12 @@ use Rattle.monitor.specs.Alerts.{counted}
 use Rattle.monitor.specs.Calls.{fresh}
 use Rattle.monitor.specs.Inspect.{applied}
 use Rattle.monitor.specs.Plan.{plan_of}
-use Rattle.monitor.specs.State.{matcher_of}
+use Rattle.monitor.specs.State.{well_formed, matcher_of}
 use Rattle.monitor.specs.declared.message.MqttMessage.{MqttMessage}
 use Rattle.monitor.specs.declared.plan.Plan.{Plan}
 use Rattle.monitor.specs.declared.state.MqttMonitor.{MqttMonitor}
 use Rattle.monitor.specs.Prepared.{Prepared, made, rule}
+use Rattle.monitor.proofs.Prepared.{prepared_sound}
 use Rattle.loops.specs.Inspections.{pattern_at, next_from, from_at, loop_message, with_pattern, ruled, readied, state_after, allowed_after, loop_allowed}
 
 -- what a fresh monitor has, and each of the loop's rules leaves, the monitor with rules has
@@ -39,6 +40,10 @@ ruled_prepared k = ruled_holds Prepared (made Port Block) (λ m p h. rule h p Al
 
 pub readied_prepared : (n : ℕ) → Prepared (readied n)
 readied_prepared n = rule (ruled_prepared n) (bytes "site/+/lamp/+") Allow (MinQoS AtLeastOnce) 65535
+
+-- and so number 10 refuses it at no turn
+pub ruled_formed : (k : ℕ) {m : MqttMonitor} → m ≡ ruled k → well_formed m ≡ true
+ruled_formed k e = rw e (prepared_sound (ruled_prepared k)).formed
 
 -- the loop's rules: one more
 pub ruled_turn : (k : ℕ) {m : MqttMonitor} {p : List ℕ} → p ≡ pattern_at k → m ≡ with_pattern (ruled k) p → m ≡ ruled (k + 1)
