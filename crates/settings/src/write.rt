@@ -90,8 +90,8 @@ pub(crate) fn write_found(
     ensures answer { write_told result ≡ written_of form (monitor_with found.now) (length out.old) }
     ensures buffer { out.new ≡ text_kept form (monitor_with found.now) out.old }
 {
-    let wanted = found_length(found, form)?;
-    if out.len() < wanted {
+    let length = found_length(found, form)?;
+    if out.len() < length {
         return Err(SettingsRefusal::NoRoom);
     }
     let head = HeadValues {
@@ -100,5 +100,5 @@ pub(crate) fn write_found(
     };
     let next = put_head(out, 0, &head);
     put_rules(out, next, counted(&found.rules, found.values.rules));
-    Ok(wanted)
+    Ok(length)
 }
