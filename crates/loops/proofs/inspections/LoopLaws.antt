@@ -1,5 +1,5 @@
--- One turn of each loop: a rule more (`ruled_turn`), which number 10 does not refuse (`ruled_formed`), and a message more, by what its calls handed back (`state_turn`, `allowed_turn`, `from_turn`); and what the loop
--- answers where it does not run. Assumes nothing.
+-- One turn of each loop: a rule more (`ruled_turn`), which number 10 does not refuse (`ruled_formed`), and a message more, by what its calls handed back
+-- (`state_turn`, `allowed_turn`, `from_turn`); and what the loop answers where it does not run. Assumes nothing.
 use Prim.Native.Nat.{ℕ, zero, suc, ◌+◌, ◌≤◌}
 use mathlib.Core.Bool.{true, cond}
 use mathlib.Core.List.{List}
