@@ -1,10 +1,10 @@
 // A settings text, loaded: a fresh monitor that has its settings; or what refuses it, beside one that denies all.
 ghost use Rattle.std.specs.Prelude.{◌≡◌};
 ghost use Rattle.settings.specs.Loaded.{loaded_of};
-ghost use Rattle.settings.specs.Refused.{loaded_told, monitor_with};
+ghost use Rattle.settings.specs.Refused.{loaded_told};
 ghost use Rattle.settings.specs.SettingsText.{settings_of};
 
-use crate::read::{SettingsFound, read_settings};
+use crate::read::read_settings;
 use crate::refusal::SettingsRefusal;
 use monitor::state::MqttMonitor;
 use tables::rules::TopicAction;
@@ -19,32 +19,26 @@ pub struct Loaded {
     pub monitor: MqttMonitor,
 }
 
-// A fresh monitor with the settings that were read.
-fn monitor_with(found: &SettingsFound) -> MqttMonitor
-    ensures { result ≡ monitor_with found.now }
-{
-    let mut m = MqttMonitor::fresh(found.values.matching, found.values.default_action);
-    m.rules.copy_from_slice(&found.rules);
-    m.rule_count = found.values.rules;
-    m.connect_storm_threshold = found.values.threshold;
-    m.connect_storm_window_us = found.values.window;
-    m
-}
-
-// No monitor is taken: whoever has one keeps it until this one is there.
+// No monitor is taken: whoever has one keeps it until this one is there. It denies all until a text sets it, so that there is one monitor on the stack, whatever the text.
 pub fn load_settings(text: &[u8]) -> Loaded
     ensures { loaded_told result ≡ loaded_of (settings_of text.now) }
 {
-    match read_settings(text) {
-        Ok(found) => Loaded {
-            outcome: Ok(found.values.form),
-            line: found.line,
-            monitor: monitor_with(&found),
-        },
-        Err(refused) => Loaded {
-            outcome: Err(refused.refusal),
-            line: refused.line,
-            monitor: MqttMonitor::fresh(Matching::Port, TopicAction::Block),
-        },
+    let mut m = MqttMonitor::fresh(Matching::Port, TopicAction::Block);
+    let (outcome, line) = match read_settings(text) {
+        Ok(found) => {
+            m.matching = found.values.matching;
+            m.default_action = found.values.default_action;
+            m.rules.copy_from_slice(&found.rules);
+            m.rule_count = found.values.rules;
+            m.connect_storm_threshold = found.values.threshold;
+            m.connect_storm_window_us = found.values.window;
+            (Ok(found.values.form), found.line)
+        }
+        Err(refused) => (Err(refused.refusal), refused.line),
+    };
+    Loaded {
+        outcome,
+        line,
+        monitor: m,
     }
 }

@@ -4,8 +4,9 @@ use Rattle.settings.proofs.load.LoadedLaws.{load_reads}
 use Rattle.settings.proofs.load.load_settings.Goals as goal
 
 pub returns-in-Ok : goal.returns-in-Ok
-returns-in-Ok c = rw c.monitor_with.ensures (load_reads _ c.in-Ok.ensures)
+unfolding fresh
+returns-in-Ok c = rw (c.fresh-m.ensures, c.copy_from_slice.ensures.after) (load_reads _ c.in-Ok.ensures)
 
 pub returns-in-Err : goal.returns-in-Err
 unfolding fresh
-returns-in-Err c = rw c.fresh.ensures (load_reads _ c.in-Err.ensures)
+returns-in-Err c = rw c.fresh-m.ensures (load_reads _ c.in-Err.ensures)
