@@ -1,8 +1,9 @@
 -- What refuses a settings text, or the writing of settings, and its number (docs/NUMBERS.md); and what the code's answers, a value or a refusal, are to the definitions, which have number, line and
 -- value beside each other.
 -- Assumes nothing.
-use Rattle.std.specs.Prelude.{ℕ, cond, eqb, Result, Ok, Err}
+use Rattle.std.specs.Prelude.{ℕ, cond, eqb, List, Result, Ok, Err}
 use Rattle.laws.specs.Refusals.{refusal}
+use Rattle.tables.specs.declared.rules.TopicRule.{TopicRule}
 use Rattle.monitor.specs.Calls.{fresh}
 use Rattle.monitor.specs.State.{with_rules, with_settings}
 use Rattle.monitor.specs.declared.state.MqttMonitor.{MqttMonitor}
@@ -105,10 +106,9 @@ abbrev pub read_told : Result SettingsFound Refused → SettingsRead
 read_told (Ok f) = found_told f
 read_told (Err e) = not_read (refusal_number e.refusal) e.line
 
--- a fresh monitor with settings that were read
-abbrev pub monitor_with : SettingsFound → MqttMonitor
-monitor_with f =
-    with_settings (with_rules (fresh f.values.matching f.values.default_action) f.rules f.values.rules) f.values.threshold f.values.window
+-- a fresh monitor with the settings of some lines, and rules
+abbrev pub monitor_by : HeadValues → List TopicRule → MqttMonitor
+monitor_by h rules = with_settings (with_rules (fresh h.matching h.default_action) rules h.rules) h.threshold h.window
 
 -- the form of a text that was loaded; a refused one has none
 abbrev pub form_told : Result ℕ SettingsRefusal → ℕ

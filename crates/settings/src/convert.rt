@@ -3,9 +3,10 @@ ghost use Rattle.std.specs.Prelude.{◌≡◌, length};
 ghost use Rattle.settings.specs.Convert.{form_meant, line_for, convert_end, convert_kept};
 ghost use Rattle.settings.specs.Refused.{end_told, refusal_number};
 
+use crate::head::HeadValues;
 use crate::read::read_settings;
 use crate::refusal::{Refused, SettingsRefusal};
-use crate::write::write_found;
+use crate::write::write_text;
 
 // What C reads of how it ended: 0, with the last line and how many bytes were written; or a number, with the line of the text that it refuses, which is the last one for
 // 37, and 0 where it is of none (27, a form that is asked for and not known, 28).
@@ -51,7 +52,11 @@ pub fn convert_settings(text: &[u8], form: u32, out: &mut [u8]) -> Result<Conver
     ensures buffer { out.new ≡ convert_kept form out.old text.now }
 {
     let found = read_settings(text)?;
-    match write_found(&found, form_meant(form, found.values.form), out) {
+    let head = HeadValues {
+        form: form_meant(form, found.values.form),
+        ..found.values
+    };
+    match write_text(&head, &found.rules, out) {
         Ok(length) => Ok(Converted {
             line: found.line,
             length,

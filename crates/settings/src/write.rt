@@ -3,14 +3,14 @@ ghost use Rattle.std.specs.Prelude.{◌≡◌, true, length};
 ghost use Rattle.laws.specs.Refusals.{refusal};
 ghost use Rattle.monitor.specs.State.{well_formed};
 ghost use Rattle.settings.specs.Loaded.{length_of, written_of, text_kept};
-ghost use Rattle.settings.specs.Refused.{refusal_number, head_in, monitor_with, write_told};
+ghost use Rattle.settings.specs.Refused.{refusal_number, head_in, monitor_by, write_told};
 ghost use Rattle.settings.specs.SettingsText.{form_refusal};
 
 use crate::head::{HeadValues, head_len, put_head};
-use crate::read::SettingsFound;
 use crate::refusal::SettingsRefusal;
 use crate::rules::{counted, put_rules, rules_len};
 use monitor::state::MqttMonitor;
+use tables::rules::{RULES, TopicRule};
 use topics::matching::Matching;
 
 // A form's refusal for settings with this matcher.
@@ -41,6 +41,35 @@ fn head_in(m: &MqttMonitor, form: u32) -> HeadValues
     }
 }
 
+// How many bytes the text of some lines and rules has. Number 10 refuses none of them, so it is not asked.
+fn text_length(head: &HeadValues, rules: &[TopicRule; RULES]) -> Result<usize, SettingsRefusal>
+    requires { well_formed (monitor_by head.now rules.now) ≡ true }
+    ensures { write_told result ≡ length_of head.now.form (monitor_by head.now rules.now) }
+{
+    check_form(head.form, head.matching)?;
+    Ok(head_len(head) + rules_len(counted(rules, head.rules)))
+}
+
+// The text of some lines and rules at the beginning of a lent buffer: that of the monitor that has them. None is made, so that where a text is only turned into the other form
+// (`convert_settings`) no monitor of 8 KB lies on the stack.
+pub(crate) fn write_text(
+    head: &HeadValues,
+    rules: &[TopicRule; RULES],
+    out: &mut [u8],
+) -> Result<usize, SettingsRefusal>
+    requires { well_formed (monitor_by head.now rules.now) ≡ true }
+    ensures answer { write_told result ≡ written_of head.now.form (monitor_by head.now rules.now) (length out.old) }
+    ensures buffer { out.new ≡ text_kept head.now.form (monitor_by head.now rules.now) out.old }
+{
+    let wanted = text_length(head, rules)?;
+    if out.len() < wanted {
+        return Err(SettingsRefusal::NoRoom);
+    }
+    let next = put_head(out, 0, head);
+    put_rules(out, next, counted(rules, head.rules));
+    Ok(wanted)
+}
+
 // How many bytes the text of a monitor's settings has. 10 comes first, then 29 for a form that is not known or 37 for form 1 of a monitor that matches by the standard.
 pub fn settings_length(m: &MqttMonitor, form: u32) -> Result<usize, SettingsRefusal>
     ensures { write_told result ≡ length_of form m.now }
@@ -48,9 +77,7 @@ pub fn settings_length(m: &MqttMonitor, form: u32) -> Result<usize, SettingsRefu
     if !m.is_well_formed() {
         return Err(SettingsRefusal::BadState);
     }
-    check_form(form, m.matching)?;
-    let head = head_len(&head_in(m, form));
-    Ok(head + rules_len(counted(&m.rules, m.rule_count)))
+    text_length(&head_in(m, form), &m.rules)
 }
 
 // The text at the beginning of a lent buffer, whose other bytes stay, and its length; 28 comes last, where there is no room. Where it is refused all bytes stay.
@@ -58,47 +85,8 @@ pub fn write_settings(m: &MqttMonitor, form: u32, out: &mut [u8]) -> Result<usiz
     ensures answer { write_told result ≡ written_of form m.now (length out.old) }
     ensures buffer { out.new ≡ text_kept form m.now out.old }
 {
-    let wanted = settings_length(m, form)?;
-    if out.len() < wanted {
-        return Err(SettingsRefusal::NoRoom);
+    if !m.is_well_formed() {
+        return Err(SettingsRefusal::BadState);
     }
-    let next = put_head(out, 0, &head_in(m, form));
-    put_rules(out, next, counted(&m.rules, m.rule_count));
-    Ok(wanted)
-}
-
-// How many bytes the text of settings that were read has. Number 10 refuses none of them, so it is not asked.
-fn found_length(found: &SettingsFound, form: u32) -> Result<usize, SettingsRefusal>
-    requires { well_formed (monitor_with found.now) ≡ true }
-    ensures { write_told result ≡ length_of form (monitor_with found.now) }
-{
-    check_form(form, found.values.matching)?;
-    let head = head_len(&HeadValues {
-        form,
-        ..found.values
-    });
-    Ok(head + rules_len(counted(&found.rules, found.values.rules)))
-}
-
-// What `write_settings` does with the monitor of settings that were read, from the settings themselves: so where they are only written (`convert_settings`) no monitor of 8 KB lies on the stack.
-pub(crate) fn write_found(
-    found: &SettingsFound,
-    form: u32,
-    out: &mut [u8],
-) -> Result<usize, SettingsRefusal>
-    requires { well_formed (monitor_with found.now) ≡ true }
-    ensures answer { write_told result ≡ written_of form (monitor_with found.now) (length out.old) }
-    ensures buffer { out.new ≡ text_kept form (monitor_with found.now) out.old }
-{
-    let length = found_length(found, form)?;
-    if out.len() < length {
-        return Err(SettingsRefusal::NoRoom);
-    }
-    let head = HeadValues {
-        form,
-        ..found.values
-    };
-    let next = put_head(out, 0, &head);
-    put_rules(out, next, counted(&found.rules, found.values.rules));
-    Ok(length)
+    write_text(&head_in(m, form), &m.rules, out)
 }

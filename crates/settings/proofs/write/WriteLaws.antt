@@ -1,5 +1,6 @@
 -- What is written of a monitor's settings, and how long it is: the lines before the rules and then the rules (`settings_wrote`, `settings_sum`), the numbers that refuse a text (`not_formed`,
--- `not_taken`), and the answer and the lent buffer for each way to end (`kept_refused`, `kept_short`, `kept_written`). Assumes nothing.
+-- `not_taken`), and the answer and the lent buffer for each way to end (`kept_refused`, `kept_short`, `kept_written`). Of a monitor that is well formed this is what is written of its lines and
+-- rules (`bare_formed`, `bare_length`, `bare_written`, `bare_kept`). Assumes nothing.
 use Prim.Native.Nat.{ℕ, ◌+◌, ◌≤◌, ◌<◌}
 use mathlib.Core.Path.{◌≡◌, ap, ◌∙◌}
 use mathlib.Core.Bool.{true, false}
@@ -13,9 +14,13 @@ use Rattle.lines.specs.Wrote.{Wrote}
 use Rattle.lines.proofs.put.WroteLaws.{wrote_then}
 use Rattle.forms.specs.Form.{pair_form, map_form, many_form, text_all}
 use Rattle.rules_text.specs.RuleText.{rule_form, rule_in}
+use Rattle.monitor.specs.Calls.{fresh}
 use Rattle.monitor.specs.State.{well_formed}
 use Rattle.monitor.specs.declared.state.MqttMonitor.{MqttMonitor}
+use Rattle.monitor.proofs.SoundCalls.{sound_fresh}
+use Rattle.monitor.proofs.state.FormedLaws.{formed_parts, parts_formed}
 use Rattle.settings.specs.Loaded.{settings_text, text_refusal, unwritten, length_of, fitted, written_of, text_kept, Written}
+use Rattle.settings.specs.Refused.{head_in as values_in, monitor_by}
 use Rattle.settings.specs.SettingsText.{form_refusal, Head, head_lines, settings_lines, settings_form}
 
 module _ (form : ℕ) (m : MqttMonitor) where
@@ -87,3 +92,27 @@ module _ (form : ℕ) (m : MqttMonitor) where
           → (w ≡ written_of form m (length d)) × (g ≡ text_kept form m d)
       unfolding written_of fitted text_kept
       kept_written z h v = let g = le-leb w.length (length d) h in (rw (← e, g), rw (← e, g, eq-eqb w.number 0 z) v.bytes)
+
+-- a monitor that is well formed, and the fresh one that has its settings and rules
+module _ (form : ℕ) (m : MqttMonitor) (f : well_formed m ≡ true) where
+  abbrev bare : MqttMonitor
+  bare = monitor_by (values_in form m) m.rules
+
+  pub bare_formed : well_formed bare ≡ true
+  bare_formed =
+      let own = formed_parts m f in
+      let new = formed_parts (fresh m.matching m.default_action) (sound_fresh m.matching m.default_action).formed in
+      parts_formed bare
+      (record { count = own.count; rules_fine = own.rules_fine; buckets_fine = new.buckets_fine; windows_fine = new.windows_fine; trackers_fine = new.trackers_fine })
+
+  pub bare_length : length_of form bare ≡ length_of form m
+  unfolding length_of text_refusal settings_text fresh
+  bare_length = rw (f, bare_formed)
+
+  pub bare_written : (room : ℕ) → written_of form bare room ≡ written_of form m room
+  unfolding written_of
+  bare_written room = ap (fitted room) bare_length
+
+  pub bare_kept : (d : List ℕ) → text_kept form bare d ≡ text_kept form m d
+  unfolding text_kept settings_text fresh
+  bare_kept d = rw (bare_written (length d))

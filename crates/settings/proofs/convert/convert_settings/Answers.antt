@@ -13,8 +13,8 @@ returns-in_err-found c =
     let h = convert_refused c.args.form c.args.out.now c.args.text.now (load_reads _ c.in_err-found.ensures) (never_0 c.in_err-found.field-0.0.refusal) in
     record { answer = rw (p.1, p.2) h.0; buffer = h.1 }
 
-pub write_found-requires : goal.write_found-requires
-write_found-requires c = load_formed _ c.in_ok-found.ensures
+pub write_text-requires : goal.write_text-requires
+write_text-requires c = load_formed _ c.in_ok-found.ensures
 
 pub returns-in-Ok : goal.returns-in-Ok
 unfolding end_at

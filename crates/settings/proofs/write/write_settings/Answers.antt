@@ -1,30 +1,25 @@
--- `settings::write::write_settings` meets its contract: the refusals of the length, then 28, each with the buffer as it was; else the text stands at its beginning. Assumes nothing.
-use mathlib.Core.Path.{◌≡◌, refl}
-use lib.ListN.{length, take}
-use Rattle.std.proofs.lemmas.Result.{err_from_is_err_and}
-use Rattle.monitor.proofs.state.FormedLaws.{formed_parts}
-use Rattle.settings.proofs.refusal.KnownLaws.{never_0}
-use Rattle.settings.proofs.write.WriteLaws.{settings_wrote, formed_known, kept_refused, kept_short, kept_written}
+-- `settings::write::write_settings` meets its contract: 10, with the buffer as it was; then what is written of its lines and rules. Assumes nothing.
+use borrow.Author.Rules.{rules}
+use mathlib.Core.Bool.{true, false}
+use mathlib.Core.Path.{◌≡◌, ◌∙◌}
+use native.Mathlib.Omega.{arith}
+use Rattle.monitor.specs.State.{well_formed}
+use Rattle.settings.proofs.write.WriteLaws.{not_formed, kept_refused, bare_formed, bare_written, bare_kept}
 use Rattle.settings.proofs.write.write_settings.Goals as goal
 
-pub returns-in_err-wanted : goal.returns-in_err-wanted
-returns-in_err-wanted c =
-    let p = err_from_is_err_and c.from_residual.result c.from_residual.ensures.1 in
-    let h = kept_refused c.args.form c.args.m.now c.in_err-wanted.ensures c.args.out.now (never_0 c.in_err-wanted.field-0.0) in
-    record { answer = rw (p.1, p.2) h.0; buffer = h.1 }
+pub returns-then-not-is_well_formed : goal.returns-then-not-is_well_formed
+returns-then-not-is_well_formed c =
+    let f : well_formed c.args.m.now ≡ false = search rules in
+    let h = kept_refused c.args.form c.args.m.now (not_formed c.args.form c.args.m.now f) c.args.out.now (λ z. omega (arith, z)) in
+    record { answer = h.0; buffer = h.1 }
 
-pub returns-then-out-wanted : goal.returns-then-out-wanted
-returns-then-out-wanted c = let h = kept_short c.args.form c.args.m.now c.in_ok-wanted.ensures c.args.out.now c.if-out-wanted.true in record { answer = h.0; buffer = h.1 }
-
-pub counted-requires : goal.counted-requires
-counted-requires c =
-    let f = formed_known c.args.form c.args.m.now c.in_ok-wanted.ensures refl in (formed_parts c.args.m.now f).count
+pub write_text-requires : goal.write_text-requires
+write_text-requires c =
+    let f : well_formed c.args.m.now ≡ true = search rules in
+    rw c.head_in.ensures (bare_formed c.args.form c.args.m.now f)
 
 pub returns : goal.returns
 returns c =
-    let m = c.args.m.now in
-    let many : length (take m.rule_count m.rules) ≡ m.rule_count = rw c.counted.ensures.value at c.counted.ensures.many in
-    let f = formed_known c.args.form m c.in_ok-wanted.ensures refl in
-    let h = kept_written c.args.form m c.in_ok-wanted.ensures c.args.out.now refl c.if-out-wanted.false
-    (settings_wrote c.args.form m many f (rw c.head_in.ensures at c.put_head-next.ensures) (rw c.counted.ensures.value at c.put_rules.ensures)) in
-    record { answer = h.0; buffer = h.1 }
+    let f : well_formed c.args.m.now ≡ true = search rules in
+    let h = rw c.head_in.ensures at c.write_text.ensures in
+    record { answer = h.answer ∙ bare_written c.args.form c.args.m.now f _; buffer = h.buffer ∙ bare_kept c.args.form c.args.m.now f _ }
