@@ -19,8 +19,8 @@
  * any thread. A bool is 0 or 1.
  *
  * Stack, in bytes below the caller, by measurement (rattle-kit-13f, x86-64; `bin/measure stack` measures again): those
- * of the standing reach 41,416, hub_queue 40,360, those of traces 21,816, hub_settings 10,440, hub_witness 1,208,
- * hub_covers 936, hub_packet_lines 712, hub_packet 408, every other call at most 256, less not being told apart. Whole,
+ * of the standing reach 41,384, hub_queue 40,344, those of traces 21,800, hub_settings 10,472, hub_witness 1,208,
+ * hub_covers 936, hub_packet_lines 728, hub_packet 408, every other call at most 256, less not being told apart. Whole,
  * cut and damaged texts and packets were tried; by the disassembly no function calls itself, no frame grows with its
  * input, and the frames of a call add up to at most 250 bytes more. */
 #ifndef HUB_H
